@@ -1,0 +1,77 @@
+//! What the programs share: the known differences in emission, and the
+//! register contents that random jobs are run on.
+use tables::gen::{float, holds, int, Holds, Rng};
+use tables::meaning::V;
+use tables::opcodes::{pack, unpack, OPCODES};
+use tables::*;
+
+/// The published answer rewritten into the house answer, or none if a word
+/// is not one that the generator emits. `seen` collects the differences met.
+pub fn rewrite(c: &Compiled, seen: &mut Vec<&'static str>) -> Option<Compiled> {
+    let mut out = Compiled { words: vec![], consts: vec![], reg: c.reg, frame: c.frame };
+    for w in &c.words {
+        let (mut op, mut v) = unpack(*w, true)?;
+        match OPCODES[op].0 {
+            // slots are handed out in emission order in both modes
+            "load_const" => v[1] = slot(&mut out.consts, c.consts[v[1] as usize]),
+            "load_imm40" if v[1] & 3 == 0 => {}
+            "load_imm40" if v[1] & 3 == 2 => {
+                seen.push("Float in load_imm40");
+                op += 2;
+                v[1] = slot(&mut out.consts, published::pair(published::value::Value::from_raw_bits(v[1] as u64)));
+            }
+            "load_imm40" => {
+                seen.push("raw bits of Nil, False, True");
+                v[1] = match v[1] { 0x05 => 1, 0x15 => 5, 0x1D => 9, _ => return None };
+            }
+            _ => {}
+        }
+        let upward = pack(op, &v, false)?;
+        if upward != pack(op, &v, true)? { seen.push("last field at the top") }
+        out.words.push(upward);
+    }
+    Some(out)
+}
+
+fn slot(consts: &mut Vec<(u8, u64)>, pair: (u8, u64)) -> i64 {
+    consts.push(pair);
+    consts.len() as i64 - 1
+}
+
+/// Whether the published Rust carries this Float in load_imm40.
+pub fn in_immediate(bits: u64) -> bool {
+    let Some(v) = published::value::Value::try_flonum(f64::from_bits(bits)) else { return false };
+    let raw = v.raw_bits();
+    (((raw << 24) as i64 >> 24) as u64) == raw
+}
+
+/// What register `reg` holds: mostly what the generator took it to hold, and
+/// often a literal of the tree, so that comparisons meet equal sides.
+pub fn local(r: &mut Rng, table: &[u64], reg: u64) -> V {
+    if r.chance(5) { return [V::Nil, V::Bool(true), V::Int(int(r)), V::Float(f64::from_bits(float(r)))][r.below(4) as usize] }
+    let at = 4 * r.below(table.len() as u64 / 4) as usize;
+    match holds(reg) {
+        Holds::Bool => V::Bool(r.chance(50)),
+        Holds::Int if table[at] == INT => V::Int(table[at + 1] as i64),
+        Holds::Int if r.chance(20) => V::Int(int(r)),
+        Holds::Int => V::Int(r.below(200) as i64 - 100),
+        Holds::Float if table[at] == FLOAT => V::Float(f64::from_bits(table[at + 1])),
+        Holds::Float => V::Float(f64::from_bits(float(r))),
+    }
+}
+
+/// The program's arguments as numbers, or the defaults.
+pub fn numbers<const N: usize>(defaults: [u64; N]) -> [u64; N] {
+    let mut out = defaults;
+    for (o, a) in out.iter_mut().zip(std::env::args().skip(1)) { *o = a.parse().expect("a number") }
+    out
+}
+
+/// The given Rust refuses by panicking; NOISY=1 shows its messages.
+pub fn quiet() { if std::env::var("NOISY").is_err() { std::panic::set_hook(Box::new(|_| {})) } }
+
+/// A program's last line, and its status.
+pub fn finish(line: String, failures: usize) -> ! {
+    println!("{line}");
+    std::process::exit((failures != 0) as i32)
+}

@@ -1,0 +1,45 @@
+//! Stand-in for vm.rs, which is not given: only what the given codegen.rs
+//! asks of `Actor`. Room is limited so that document 01's 6 and 7 can be
+//! met; the numbers travel as panic payloads, as codegen.rs has no error
+//! path of its own there.
+use crate::alloc::Alloc;
+use crate::insns::Insn;
+use crate::lexer::SrcPos;
+use crate::value::Value;
+use tables::Refused;
+
+pub struct Actor
+{
+    pub insns: Vec<Insn>,
+    pub alloc: Alloc,
+    pub consts: Vec<Value>,
+    pub max_words: usize,
+    pub max_slots: usize,
+}
+
+impl Actor
+{
+    pub fn new() -> Self
+    {
+        Actor { insns: vec![], alloc: Alloc::new(), consts: vec![], max_words: usize::MAX, max_slots: usize::MAX }
+    }
+
+    pub fn push_insn(&mut self, insn: Insn, _pos: SrcPos)
+    {
+        if self.insns.len() >= self.max_words { std::panic::panic_any(Refused(7)) }
+        self.insns.push(insn);
+    }
+
+    /// (house) a fresh slot
+    pub fn push_const(&mut self, val: Value) -> u32
+    {
+        if self.consts.len() >= self.max_slots { std::panic::panic_any(Refused(6)) }
+        self.consts.push(val);
+        (self.consts.len() - 1) as u32
+    }
+
+    pub fn gc_check(&mut self, _bytes: usize, _roots: &mut [&mut Value]) {}
+    pub fn global_value(&self, _idx: u32) -> Option<Value> { unreachable!() }
+    pub fn new_prop_cache(&mut self, _name: &str) -> u32 { unreachable!() }
+    pub fn new_call_cache(&mut self, _name: &str) -> u32 { unreachable!() }
+}
