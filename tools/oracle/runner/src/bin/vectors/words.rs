@@ -48,6 +48,7 @@ pub fn make() -> Pair {
     for op in 0..OPCODES.len() { constructs(&mut r, op, &mut out, &mut words) }
     decodes(&mut r, &words, &mut out);
     patches(&mut r, &words, &mut o, &mut out);
+    for answer in ["construct 0", "construct 9", "decode 0", "decode 10", "patch 0", "patch 8", "patch 10", "patch 11", "patch 12"] { out.must_meet(answer) }
     out
 }
 
