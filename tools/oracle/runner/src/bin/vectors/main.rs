@@ -4,6 +4,7 @@
 //!     vectors check FOLDER    compares those that stand there
 //! A file is a run of 64-bit numbers, least byte first. Every stdin begins
 //! with its number of records; the answers follow one another in stdout.
+mod eval;
 mod value;
 mod words;
 
@@ -16,6 +17,7 @@ pub struct Pair { records: u64, stdin: Vec<u64>, stdout: Vec<u64>, met: BTreeMap
 
 impl Pair {
     pub fn record(&mut self, numbers: &[u64]) { self.records += 1; self.stdin.extend(numbers) }
+    pub fn more(&mut self, numbers: &[u64]) { self.stdin.extend(numbers) }
     pub fn answer(&mut self, numbers: &[u64]) { self.stdout.extend(numbers) }
     pub fn meet(&mut self, what: String) { *self.met.entry(what).or_default() += 1 }
 
@@ -39,7 +41,7 @@ fn main() {
     let args: Vec<String> = std::env::args().skip(1).collect();
     let [mode, folder] = &args[..] else { panic!("vectors write|check FOLDER") };
     runner::quiet();
-    let all: [(&str, fn() -> Pair); 2] = [("words", words::make), ("value", value::make)];
+    let all: [(&str, fn() -> Pair); 3] = [("words", words::make), ("value", value::make), ("eval", eval::make)];
     let mut differ = 0;
     for (name, make) in all {
         let at = Path::new(folder).join(format!("{name}_replay"));
