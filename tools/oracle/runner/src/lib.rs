@@ -67,8 +67,14 @@ pub fn numbers<const N: usize>(defaults: [u64; N]) -> [u64; N] {
     out
 }
 
-/// The given Rust refuses by panicking; NOISY=1 shows its messages.
-pub fn quiet() { if std::env::var("NOISY").is_err() { std::panic::set_hook(Box::new(|_| {})) } }
+/// The given Rust and the shims refuse by panicking, which the oracle turns
+/// into numbers; only a panic of the programs' own is shown.
+pub fn quiet() {
+    std::panic::set_hook(Box::new(|info| {
+        let ours = info.location().is_some_and(|l| l.file().starts_with("runner") || l.file().starts_with("tables"));
+        if ours { eprintln!("{info}") }
+    }))
+}
 
 /// A program's last line, and its status.
 pub fn finish(line: String, failures: usize) -> ! {
