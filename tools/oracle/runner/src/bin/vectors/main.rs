@@ -4,6 +4,7 @@
 //!     vectors check FOLDER    compares those that stand there
 //! A file is a run of 64-bit numbers, least byte first. Every stdin begins
 //! with its number of records; the answers follow one another in stdout.
+mod codegen;
 mod eval;
 mod machine;
 mod value;
@@ -42,7 +43,8 @@ fn main() {
     let args: Vec<String> = std::env::args().skip(1).collect();
     let [mode, folder] = &args[..] else { panic!("vectors write|check FOLDER") };
     runner::quiet();
-    let all: [(&str, fn() -> Pair); 4] = [("words", words::make), ("value", value::make), ("eval", eval::make), ("machine", machine::make)];
+    let all: [(&str, fn() -> Pair); 5] =
+        [("words", words::make), ("value", value::make), ("eval", eval::make), ("machine", machine::make), ("codegen", codegen::make)];
     let mut differ = 0;
     for (name, make) in all {
         let at = Path::new(folder).join(format!("{name}_replay"));
