@@ -7,6 +7,7 @@ fail() { echo "compare: FAILED: $*"; exit 1; }
 run() { "target/release/$@" >target/log 2>&1 || { tail -n 20 target/log; fail "$*"; }; tail -n 1 target/log; }
 
 (cd given && sha256sum --check --strict --quiet SHA256SUMS) || fail "a file in given/ is not the one given"
+[ "$(cd given && ls *.rs)" = "$(cut -c67- given/SHA256SUMS)" ] || fail "given/ and its list of files differ"
 cargo build --offline --locked --release --quiet || fail "the oracle does not build"
 run samples
 run probes

@@ -32,23 +32,17 @@ impl Pair {
     }
 }
 
-/// Eight numbers, zeros after those given.
-pub fn eight(v: &[u64]) -> [u64; 8] {
-    let mut out = [0; 8];
-    out[..v.len()].copy_from_slice(v);
-    out
-}
-
 fn main() {
     let args: Vec<String> = std::env::args().skip(1).collect();
     let [mode, folder] = &args[..] else { panic!("vectors write|check FOLDER") };
     runner::quiet();
     let all: [(&str, fn() -> Pair); 5] =
         [("words", words::make), ("value", value::make), ("eval", eval::make), ("machine", machine::make), ("codegen", codegen::make)];
-    let mut differ = 0;
-    for (name, make) in all {
+    let (mut stand, mut differ) = (0, 0);
+    for (name, make) in &all {
         let at = Path::new(folder).join(format!("{name}_replay"));
         if !at.is_dir() { println!("{name}_replay: no such folder"); continue }
+        stand += 1;
         let pair = make();
         let mut sizes = vec![];
         for (file, bytes) in pair.files() {
@@ -62,5 +56,5 @@ fn main() {
         }
         println!("{name}_replay: {} records, {} and {} bytes, met {:?}", pair.records, sizes[0], sizes[1], pair.met);
     }
-    runner::finish(format!("vectors {mode}: {differ} files differ"), differ);
+    runner::finish(format!("vectors {mode}: {stand} of {} programs stand, {differ} files differ", all.len()), differ);
 }

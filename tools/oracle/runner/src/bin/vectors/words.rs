@@ -3,11 +3,18 @@
 //! word; job 2 patch: words in use, position, target, the four words.
 //! Answer: eight numbers, construct: number, word; decode: number, opcode,
 //! operands; patch: number, the four words.
-use crate::{eight, Pair};
+use crate::Pair;
 use house::words::{construct, decode, patch};
 use std::collections::BTreeSet;
 use tables::gen::Rng;
 use tables::opcodes::{self, extend, pack, Kind::{self, *}, OPCODES};
+
+/// Eight numbers, zeros after those given.
+fn eight(v: &[u64]) -> [u64; 8] {
+    let mut out = [0; 8];
+    out[..v.len()].copy_from_slice(v);
+    out
+}
 
 /// Operands at the edges of each kind of field and of its Rust type.
 fn edges(kind: Kind) -> Vec<i64> {
