@@ -1,0 +1,3 @@
+-- What the contracts of the instruction words cite: fields and how they are packed; the 77 instructions.
+pub mod Fields
+pub mod Insns

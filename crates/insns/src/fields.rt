@@ -1,0 +1,138 @@
+// The fields of a word. A field has a size, 2 to the power of its width, and bits below that size; it is given here as the two numbers.
+// A signed operand that its field does not hold has, for its bits, a number past the field, so that one test serves every kind of field.
+use crate::Insn;
+use crate::Made;
+use crate::op::Imm40;
+ghost use mathlib.Core.Path.{_≡_};
+ghost use mathlib.Core.List.{[], _∷_};
+ghost use Prim.Native.Nat.{_*_, _≤_, _^_};
+ghost use lib.Signed.{mag};
+ghost use Rattle.insns.specs.Fields.{make, twos, rawBits, isRaw};
+
+// The word of five fields, each a size and its bits, or Refused.
+pub fn make5(
+    op: u8,
+    m1: u64,
+    a: u64,
+    m2: u64,
+    b: u64,
+    m3: u64,
+    c: u64,
+    m4: u64,
+    d: u64,
+    m5: u64,
+    e: u64,
+) -> Made
+    requires { ⌜ m1 * (m2 * (m3 * (m4 * m5))) ≤ 2 ^ 56 ⌝ }
+    ensures { λ r. ⌜ r ≡ make op ((m1, a) ∷ (m2, b) ∷ (m3, c) ∷ (m4, d) ∷ (m5, e) ∷ []) ⌝ }
+{
+    if m1 <= a {
+        return Made::Refused;
+    }
+    if m2 <= b {
+        return Made::Refused;
+    }
+    if m3 <= c {
+        return Made::Refused;
+    }
+    if m4 <= d {
+        return Made::Refused;
+    }
+    if m5 <= e {
+        return Made::Refused;
+    }
+    let low = op as u64;
+    let t4 = d + m4 * e;
+    let t3 = c + m3 * t4;
+    let t2 = b + m2 * t3;
+    let t1 = a + m1 * t2;
+    Made::Fits(Insn {
+        bits: low + 256 * t1,
+    })
+}
+
+// The same of fewer fields: a field of size 1 takes no bits.
+pub fn make4(op: u8, m1: u64, a: u64, m2: u64, b: u64, m3: u64, c: u64, m4: u64, d: u64) -> Made
+    requires { ⌜ m1 * (m2 * (m3 * m4)) ≤ 2 ^ 56 ⌝ }
+    ensures { λ r. ⌜ r ≡ make op ((m1, a) ∷ (m2, b) ∷ (m3, c) ∷ (m4, d) ∷ []) ⌝ }
+{
+    make5(op, m1, a, m2, b, m3, c, m4, d, 1, 0)
+}
+
+pub fn make3(op: u8, m1: u64, a: u64, m2: u64, b: u64, m3: u64, c: u64) -> Made
+    requires { ⌜ m1 * (m2 * m3) ≤ 2 ^ 56 ⌝ }
+    ensures { λ r. ⌜ r ≡ make op ((m1, a) ∷ (m2, b) ∷ (m3, c) ∷ []) ⌝ }
+{
+    make5(op, m1, a, m2, b, m3, c, 1, 0, 1, 0)
+}
+
+pub fn make2(op: u8, m1: u64, a: u64, m2: u64, b: u64) -> Made
+    requires { ⌜ m1 * m2 ≤ 2 ^ 56 ⌝ }
+    ensures { λ r. ⌜ r ≡ make op ((m1, a) ∷ (m2, b) ∷ []) ⌝ }
+{
+    make5(op, m1, a, m2, b, 1, 0, 1, 0, 1, 0)
+}
+
+pub fn make1(op: u8, m1: u64, a: u64) -> Made
+    requires { ⌜ m1 ≤ 2 ^ 56 ⌝ }
+    ensures { λ r. ⌜ r ≡ make op ((m1, a) ∷ []) ⌝ }
+{
+    make5(op, m1, a, 1, 0, 1, 0, 1, 0, 1, 0)
+}
+
+pub fn make0(op: u8) -> Made
+    ensures { λ r. ⌜ r ≡ make op [] ⌝ }
+{
+    make5(op, 1, 0, 1, 0, 1, 0, 1, 0, 1, 0)
+}
+
+// n for z = n, and for z = -(n + 1): a signed field of 2 * h numbers holds z exactly where this is below h.
+pub fn magnitude(z: i64) -> u64
+    ensures { λ r. ⌜ r ≡ mag z ⌝ }
+{
+    if z < 0 {
+        return (!z) as u64;
+    }
+    z as u64
+}
+
+// The bits of z in a field of 2 * half numbers, or 2 * half where z does not fit.
+pub fn signed_bits(z: i64, half: u64) -> u64
+    requires { ⌜ half ≤ 2 ^ 40 ⌝ }
+    ensures { λ r. ⌜ r ≡ twos half z ⌝ }
+{
+    let n = magnitude(z);
+    if half <= n {
+        return 2 * half;
+    }
+    if z < 0 {
+        return 2 * half - 1 - n;
+    }
+    n
+}
+
+// Whether the bits of a 40-bit immediate are the raw bits of a value.
+pub fn is_raw(n: u64) -> bool
+    ensures { λ r. ⌜ r ≡ isRaw n ⌝ }
+{
+    if n % 4 == 0 {
+        return true;
+    }
+    if n == 1 {
+        return true;
+    }
+    if n == 5 {
+        return true;
+    }
+    n == 9
+}
+
+pub fn raw_bits(imm: Imm40) -> u64
+    ensures { λ r. ⌜ r ≡ rawBits (imm .raw) ⌝ }
+{
+    let n = signed_bits(imm.raw, 549755813888);
+    if is_raw(n) {
+        return n;
+    }
+    1099511627776
+}
