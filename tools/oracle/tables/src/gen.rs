@@ -99,6 +99,7 @@ pub fn holds(reg: u64) -> Holds {
     if reg % 3 == 2 { Holds::Float } else if reg % 4 == 1 { Holds::Bool } else { Holds::Int }
 }
 
+/// A Ref to a register that fits, or a literal.
 fn leaf(r: &mut Rng, b: &mut Builder, s: Shape, want: Want) {
     if s.base > 0 && r.chance(45) {
         // the highest register is as interesting as the lowest
@@ -127,10 +128,12 @@ fn leaf(r: &mut Rng, b: &mut Builder, s: Shape, want: Want) {
     }
 }
 
+/// A Float's bits: one worth trying, a small number of eighths, or anything.
 pub fn float(r: &mut Rng) -> u64 {
     if r.chance(70) { r.pick(&FLOATS) } else if r.chance(50) { (r.next() as i16 as f64 / 8.0).to_bits() } else { r.next() }
 }
 
+/// Appends a tree of `n` nodes and at most `depth` levels.
 fn grow(r: &mut Rng, b: &mut Builder, s: Shape, n: usize, depth: u64, want: Want) {
     if n == 1 { return leaf(r, b, s, want) }
     let want = if r.chance(s.typed) { want } else { Want::Any };
@@ -170,6 +173,7 @@ fn grow(r: &mut Rng, b: &mut Builder, s: Shape, n: usize, depth: u64, want: Want
     b.op(kind);
 }
 
+/// An operator of so many children that gives what is wanted.
 fn kind(r: &mut Rng, arity: usize, want: Want) -> u64 {
     match (arity, want) {
         (1, Want::Bool) => NOT,
@@ -183,6 +187,7 @@ fn kind(r: &mut Rng, arity: usize, want: Want) -> u64 {
     }
 }
 
+/// What an operator wants of its children.
 fn wants(r: &mut Rng, kind: u64, want: Want) -> [Want; 3] {
     match kind {
         MINUS => [if want == Want::Int { want } else { Want::Num }; 3],
