@@ -1,0 +1,8 @@
+-- `eval::truth_of` meets its contract. Assumes nothing.
+use borrow.Author.Needs.{needs}
+use Rattle.eval.proofs.Laws.{truths}
+use Rattle.eval.proofs.truth_of.Statement.{statement}
+use Rattle.eval.proofs.truth_of.Tie as tie
+
+pub truth-of-spec : {M : Type 1} → statement M
+truth-of-spec = tie.close (tie.spec (λ c. search (truths, needs)) (λ c. search (truths, needs)) (λ c. search (truths, needs)) (λ c. search (truths, needs)) (λ c. search (truths, needs)) (λ c. search (truths, needs)) (λ c. search (truths, needs)) (λ c. search (truths, needs)) (λ c. search (truths, needs)) (λ c. search (truths, needs)) (λ c. search (truths, needs)))

@@ -1,0 +1,83 @@
+-- The meaning of a tree on the values of its locals, as document 01 has it: a value, or the number of the first fault.
+-- Assumes nothing: these are definitions.
+use Prim.Native.Nat.{ℕ}
+use mathlib.Core.Bool.{true, false, cond}
+use mathlib.Core.List.{List}
+use lib.ListN.{getD}
+use Rattle.faults.specs.Numbers.{wrongKind}
+use Rattle.table.specs.Tree as T
+use Rattle.table.specs.Tree.{Leaf, Unary, Arith, Cmp, Binary, Tree}
+use Rattle.value.specs.Value.{Datum, nil, bool, int, float}
+use Rattle.value.specs.Ops.{Result, is, fault, minusOf, notOf, andOf, orOf, xorOf, shlOf, shrOf, addOf, subOf, mulOf, divOf, remOf, eqOf, neOf, ltOf, leOf}
+
+-- ---- a literal is its value, a Ref the value of its local
+
+unfoldable pub leafOf : List Datum → Leaf → Result
+leafOf ls T.nil = is nil
+leafOf ls T.yep = is (bool true)
+leafOf ls T.nope = is (bool false)
+leafOf ls (T.int z) = is (int z)
+leafOf ls (T.float p) = is (float p)
+leafOf ls (T.ref r) = is (getD ls r nil)
+
+-- ---- the operators on values
+
+unfoldable pub unaryOf : Unary → Datum → Result
+unaryOf T.minus = minusOf
+unaryOf T.neg = notOf
+
+unfoldable pub arithOf : Arith → Datum → Datum → Result
+arithOf T.bitAnd = andOf
+arithOf T.bitOr = orOf
+arithOf T.bitXor = xorOf
+arithOf T.lshift = shlOf
+arithOf T.rshift = shrOf
+arithOf T.add = addOf
+arithOf T.sub = subOf
+arithOf T.mul = mulOf
+arithOf T.div = divOf
+arithOf T.mod′ = remOf
+
+-- x > y is y < x, and x >= y is y <= x
+unfoldable pub cmpOf : Cmp → Datum → Datum → Result
+cmpOf T.eq = eqOf
+cmpOf T.ne = neOf
+cmpOf T.lt = ltOf
+cmpOf T.le = leOf
+cmpOf T.gt = λ x y. ltOf y x
+cmpOf T.ge = λ x y. leOf y x
+
+-- ---- the operators on answers: left before right, and the first fault counts
+
+unfoldable pub on : (Datum → Result) → Result → Result
+on f (is x) = f x
+on f (fault n) = fault n
+
+unfoldable pub both : (Datum → Datum → Result) → Result → Result → Result
+both f (is x) b = on (f x) b
+both f (fault n) b = fault n
+
+-- a test wants a Bool, and only the answer that it chooses is looked at
+unfoldable pub whether : Result → Result → Result → Result
+whether (is nil) b c = fault wrongKind
+whether (is (bool t)) b c = cond t b c
+whether (is (int z)) b c = fault wrongKind
+whether (is (float p)) b c = fault wrongKind
+whether (fault n) b c = fault n
+
+unfoldable pub test : Result → Result
+test a = whether a (is (bool true)) (is (bool false))
+
+unfoldable pub binaryOf : Binary → Result → Result → Result
+binaryOf (T.arith o) a b = both (arithOf o) a b
+binaryOf (T.cmp o) a b = both (cmpOf o) a b
+binaryOf T.and a b = whether a (test b) (is (bool false))
+binaryOf T.or a b = whether a (is (bool true)) (test b)
+
+-- ---- a tree
+
+unfoldable pub evalOf : List Datum → Tree → Result
+evalOf ls (T.leaf l) = leafOf ls l
+evalOf ls (T.unary o a) = on (unaryOf o) (evalOf ls a)
+evalOf ls (T.binary o a b) = binaryOf o (evalOf ls a) (evalOf ls b)
+evalOf ls (T.ternary a b c) = whether (evalOf ls a) (evalOf ls b) (evalOf ls c)
