@@ -1,5 +1,5 @@
-//! The smallest input for each row of docs/DIFFERENCES.md, run, and both
-//! sides compared with what the row says.
+//! The inputs of the rows of docs/DIFFERENCES.md, run, and each answer held
+//! to what the row says (the file names what is read and not run).
 use published::value::Value;
 use runner::in_immediate;
 use tables::meaning::{compare, V};
