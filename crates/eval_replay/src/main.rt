@@ -1,0 +1,68 @@
+// Replays node tables with their locals, and writes what the check and the evaluator answer; tools/oracle/README.md has the layout.
+ghost use Prim.Native.Nat.{_≤_};
+use table::Dest;
+use value::ops::Answer;
+
+// Room for the largest record.
+const TABLE_WORDS: usize = 16388;
+
+const LOCALS: usize = 16;
+
+fn dest_of(d: u64) -> Dest {
+    if d == 0 {
+        return Dest::None;
+    }
+    Dest::Reg(d - 1)
+}
+
+// n, or the room where that is less.
+fn within(n: u64, room: usize) -> usize
+    ensures { λ r. ⌜ r ≤ room ⌝ }
+{
+    if n < room as u64 {
+        return n as usize;
+    }
+    room
+}
+
+fn write_answer(a: Answer) {
+    match a {
+        Answer::Is(v) => {
+            wire::write_word(0);
+            wire::write_word(value::value::kind_of(v) as u64);
+            wire::write_word(value::value::payload_of(v));
+        }
+        Answer::Fault(n) => {
+            wire::write_word(n as u64);
+            wire::write_word(0);
+            wire::write_word(0);
+        }
+    }
+}
+
+fn replay(words: &mut [u64], kinds: &mut [u8], payloads: &mut [u64]) {
+    let n = wire::read_word();
+    let params = wire::read_word();
+    let locals = wire::read_word();
+    let dest = wire::read_word();
+    let nk = wire::read_word();
+    let np = wire::read_word();
+    wire::read_words(words, n);
+    wire::read_bytes(kinds, nk);
+    wire::read_words(payloads, np);
+    let w = within(n, words.len());
+    let k = within(nk, kinds.len());
+    let p = within(np, payloads.len());
+    wire::write_word(table::check(&words[..w], params, locals, dest_of(dest)) as u64);
+    write_answer(eval::evaluate(&words[..w], params, locals, &kinds[..k], &payloads[..p]));
+}
+
+fn main() {
+    let mut words = [0u64; TABLE_WORDS];
+    let mut kinds = [0u8; LOCALS];
+    let mut payloads = [0u64; LOCALS];
+    let n = wire::read_word();
+    for _ in 0..n {
+        replay(&mut words, &mut kinds, &mut payloads);
+    }
+}
