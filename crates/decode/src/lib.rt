@@ -1,0 +1,121 @@
+// From a word to its instruction, and aiming a branch word.
+use crate::cut::bit_and_mask_of;
+use crate::cut::by_id_of;
+use crate::cut::call_host_of;
+use crate::cut::call_method_host_of;
+use crate::cut::call_of;
+use crate::cut::clos_get_of;
+use crate::cut::clos_new_of;
+use crate::cut::clos_set_of;
+use crate::cut::if_raw;
+use crate::cut::if_whole;
+use crate::cut::one_of;
+use crate::cut::rshift_mask_of;
+use crate::cut::shift_of;
+use crate::cut::signed_of;
+use crate::cut::slot_of;
+use crate::cut::three_of;
+use crate::cut::two_of;
+use crate::cut::wide_of;
+use crate::form::form;
+use insns::op::Disp;
+use insns::op::Form;
+use insns::op::Imm16;
+use insns::op::Imm40;
+use insns::op::Op;
+ghost use mathlib.Core.Path.{_≡_};
+ghost use Rattle.decode.specs.Decode.{decodeOf};
+
+pub mod cut;
+pub mod form;
+pub mod patch;
+
+// What a word decodes to; Bad is number 10.
+pub enum Decoded {
+    Is(Op),
+    Bad,
+}
+
+// What the word w is, or Bad (10). The forms with a signed operand are cut here, the others in `cut`.
+pub fn decode(w: u64) -> Decoded
+    ensures { λ r. ⌜ r ≡ decodeOf w ⌝ }
+{
+    let x = w / 256;
+    let x1 = x / 65536;
+    let x2 = x1 / 65536;
+    match form(w % 256) {
+        Form::Bare(k) => if_whole(x, Op::Bare(k)),
+        Form::LoadImm40 => {
+            let n = x1 % 1099511627776;
+            let imm = Imm40 {
+                raw: signed_of(n, 549755813888),
+            };
+            if_raw(
+                n,
+                if_whole(x1 / 1099511627776, Op::LoadImm40((x % 65536) as u16, imm)),
+            )
+        }
+        Form::Two(k) => two_of(k, x),
+        Form::Slot(k) => slot_of(k, x),
+        Form::Three(k) => three_of(k, x),
+        Form::Shift(k) => shift_of(k, x),
+        Form::BitAndMask => bit_and_mask_of(x),
+        Form::RshiftMask => rshift_mask_of(x),
+        Form::Arith(k) => {
+            let imm = Imm16 {
+                n: signed_of(x2 % 65536, 32768) as i16,
+            };
+            if_whole(
+                x2 / 65536,
+                Op::Arith(k, (x % 65536) as u16, (x1 % 65536) as u16, imm),
+            )
+        }
+        Form::ClosNew => clos_new_of(x),
+        Form::ClosSet => clos_set_of(x),
+        Form::ClosGet => clos_get_of(x),
+        Form::One(k) => one_of(k, x),
+        Form::Wide(k) => wide_of(k, x),
+        Form::If(k) => {
+            let disp = Disp {
+                by: signed_of(x1 % 4294967296, 2147483648) as i32,
+            };
+            if_whole(x1 / 4294967296, Op::If(k, (x % 65536) as u16, disp))
+        }
+        Form::Jump(k) => {
+            let disp = Disp {
+                by: signed_of(x2 % 16777216, 8388608) as i32,
+            };
+            if_whole(
+                x2 / 16777216,
+                Op::Jump(k, (x % 65536) as u16, (x1 % 65536) as u16, disp),
+            )
+        }
+        Form::JumpImm(k) => {
+            let imm = Imm16 {
+                n: signed_of(x1 % 65536, 32768) as i16,
+            };
+            let disp = Disp {
+                by: signed_of(x2 % 16777216, 8388608) as i32,
+            };
+            if_whole(x2 / 16777216, Op::JumpImm(k, (x % 65536) as u16, imm, disp))
+        }
+        Form::Jmp => {
+            let disp = Disp {
+                by: signed_of(x % 4294967296, 2147483648) as i32,
+            };
+            if_whole(x / 4294967296, Op::Jmp(disp))
+        }
+        Form::Call(k) => call_of(k, x),
+        Form::CallHost => call_host_of(x),
+        Form::ById(k) => by_id_of(k, x),
+        Form::CallMethodHost => call_method_host_of(x),
+        Form::RetImm40 => {
+            let n = x % 1099511627776;
+            let imm = Imm40 {
+                raw: signed_of(n, 549755813888),
+            };
+            if_raw(n, if_whole(x / 1099511627776, Op::RetImm40(imm)))
+        }
+        Form::Unknown => Decoded::Bad,
+    }
+}
