@@ -9,18 +9,18 @@ use native.Mathlib.Omega.{arith}
 use lib.Bits.{and-lt, or-lt, xor-lt}
 use lib.Dec.{ltb, leb, eqb}
 use lib.IntN.{ℤ, pos, negsuc, natAbs, _*ℤ_}
-use lib.Signed.{mag, shrZ, mag-shr, natAbs-le}
+use lib.Signed.{mag, ltZ, shrZ, mag-shr, natAbs-le}
 use mir.Syntax.{w64}
 use mir.Val.{SFits, Fits, toZ, ofZ}
 use mir.ValLaws.{toZ-ofZ, ofZ-toZ, toZ-fits}
-use borrow.Author.Tests.{lt-ltb, le-ltb, le-leb, lt-leb, eq-eqb, ne-eqb}
+use borrow.Author.Tests.{lt-ltb, le-ltb, le-leb, lt-leb, eq-eqb, ne-eqb, ltb-true}
 use Rattle.faults.specs.Numbers.{modByZero, badShift}
 use Rattle.int64.specs.Int as Int
 use Rattle.int64.specs.Int.{Outcome, number, fault, inRange, checked, exact, held, negative, withSign, bitsOf, bitwise}
 use Rattle.int64.specs.Order.{Order, less, equal, greater, unordered, isLess, isEqual, isGreater, orderZ, holds}
 use Rattle.int64.specs.declared.Cmp.{Cmp}
 use Rattle.int64.specs.declared.Cmp.the-variants.{Eq, Ne, Lt, Le, Gt, Ge}
-use Rattle.int64.proofs.Laws.{up, orderN, order-up, checked-exact, by-positive, shift-yes, shift-no, one-shifted, floor-is, sign-number, sign-fits}
+use Rattle.int64.proofs.Laws.{never, up, orderN, order-up, checked-exact, by-positive, shift-yes, shift-no, one-shifted, floor-is, sign-number, sign-fits}
 
 -- ---- exact results
 
@@ -126,3 +126,27 @@ module _ (op : Cmp) (p q : ℕ) {a b : ℕ} (x : a ≡ up p) (y : b ≡ up q) (f
   ge-is e = same (λ m n. leb n m) (rw e (tests (up p) (up q) .ge))
 
 pub ruleset answers = (exact-by, bits-by, shl-no, shr-no, shl-yes, shr-yes, rem-no, rem-yes, eq-is, ne-is, lt-is, le-is, gt-is, ge-is)
+
+-- ---- exchanged
+
+pub never-both : (a b : ℤ) → ltZ a b ≡ true → ltZ b a ≡ false
+never-both (pos a) (pos b) e = le-ltb b a (omega (arith, ltb-true a b e))
+never-both (pos a) (negsuc b) e = never (sym e)
+never-both (negsuc a) (pos b) e = refl
+never-both (negsuc a) (negsuc b) e = le-ltb a b (omega (arith, ltb-true b a e))
+
+abbrev pub flip : Order → Order
+flip less = greater
+flip equal = equal
+flip greater = less
+flip unordered = unordered
+
+pub orderZ-flip : (a b : ℤ) → orderZ b a ≡ flip (orderZ a b)
+unfolding orderZ
+orderZ-flip a b = go (ltZ a b) (ltZ b a) (never-both a b)
+  where
+    go : (x y : Bool) → (x ≡ true → y ≡ false) → cond y less (cond x greater equal) ≡ flip (cond x less (cond y greater equal))
+    go true true n = never (n refl)
+    go true false n = refl
+    go false true n = refl
+    go false false n = refl

@@ -31,14 +31,22 @@ pub fn negative(p: u64) -> bool
 pub fn size(p: u64) -> u64
     ensures { λ r. ⌜ r ≡ natAbs (toZ w64 p) ⌝ }
 {
-    if p < 0x8000_0000_0000_0000 { p } else { 0xffff_ffff_ffff_ffff - p + 1 }
+    if p < 0x8000_0000_0000_0000 {
+        p
+    } else {
+        0xffff_ffff_ffff_ffff - p + 1
+    }
 }
 
 // The pattern of m, or of -m.
 pub fn with_sign(neg: bool, m: u64) -> u64
     ensures { λ r. ⌜ r ≡ Int.bitsOf neg m ⌝ }
 {
-    if neg { std::num::wrapping_sub_u64(0, m) } else { m }
+    if neg {
+        std::num::wrapping_sub_u64(0, m)
+    } else {
+        m
+    }
 }
 
 // Whether x * y fits with its sign. Small factors need no division.
@@ -62,7 +70,11 @@ pub fn times_fits(neg: bool, x: u64, y: u64) -> bool
 pub fn times(neg: bool, x: u64, y: u64) -> u64
     ensures { λ r. ⌜ r ≡ held (withSign neg (x * y)) ⌝ }
 {
-    if times_fits(neg, x, y) { with_sign(neg, x * y) } else { 0 }
+    if times_fits(neg, x, y) {
+        with_sign(neg, x * y)
+    } else {
+        0
+    }
 }
 
 // Whether 64 bits hold the exact result.

@@ -1,6 +1,8 @@
 -- Laws that belong to no one function.
 pub mod RoundTrip
-pub mod Answers
-pub mod Samples
 pub mod PairLaws
+pub mod Answers
 pub mod Closed
+pub mod Plain
+pub mod Comparing
+pub mod Samples

@@ -1,26 +1,29 @@
--- The operations on values, by document 01, "Values": a value or the number of a fault, in the order 20, 23, 22 or 24, 21.
+-- The operators on values, by document 01, "Values": a value, or the number of a fault, in the order 20, 23, 22 or 24, 21.
 use Prim.Native.Nat.{ℕ, _^_}
-use mathlib.Core.Bool.{Bool, true, false, not, cond, Bool·beq}
-use lib.Bits.{bitAnd, bitOr, bitXor}
-use lib.Dec.{leb, ltb, eqb}
-use lib.Signed.{remZ, shrZ, ltZ, leZ}
+use mathlib.Core.Bool.{Bool, true, false, not, _&&_, cond}
+use lib.Dec.{leb, eqb}
+use lib.IntN.{ℤ, pos, negsuc, natAbs}
 use mir.Syntax.{w64}
-use mir.Val.{toZ, ofZ}
-use lib.IntN.{ℤ, pos, negsuc, natAbs, _+ℤ_, _-ℤ_, _*ℤ_}
-use Rattle.faults.specs.Numbers.{wrongKind, overflow, modByZero, notExact, badShift}
+use mir.Val.{toZ}
+use Rattle.faults.specs.Numbers.{wrongKind, notExact}
 use Rattle.float.specs.Binary64 as F
-use Rattle.float.specs.Binary64.{Real, read}
-use Rattle.int64.specs.Int.{inRange}
+use Rattle.float.specs.Binary64.{read}
+use Rattle.int64.specs.Int as I
+use Rattle.int64.specs.Int.{Outcome}
+use Rattle.int64.specs.Order.{Order, orderZ, holds}
 use Rattle.value.specs.Value.{Datum, nil, bool, int, float, meaning, kindOf, payloadOf}
-use Rattle.int64.specs.declared.Num.{Num}
-use Rattle.int64.specs.declared.Num.the-variants as N
-use Rattle.value.specs.declared.value.Value.the-variants as C
+use Rattle.int64.specs.declared.Op as IntOp
+use Rattle.int64.specs.declared.Op.the-variants as IO
+use Rattle.int64.specs.declared.Cmp.{Cmp}
+use Rattle.int64.specs.declared.Cmp.the-variants.{Eq, Ne, Lt, Le, Gt, Ge}
+use Rattle.float.specs.declared.Op as FloatOp
+use Rattle.float.specs.declared.Op.the-variants as FO
+use Rattle.float.specs.declared.Whole.{Whole}
+use Rattle.float.specs.declared.Whole.the-variants.{Is, Wide}
 use Rattle.value.specs.declared.ops.Answer.{Answer}
 use Rattle.value.specs.declared.ops.Answer.the-variants as A
 use Rattle.value.specs.declared.ops.Number.{Number}
-use Rattle.value.specs.declared.ops.Number.the-variants.{Int, Float, Other}
-use Rattle.value.specs.declared.ops.Operands.{Operands}
-use Rattle.value.specs.declared.ops.Operands.the-variants.{Ints, Floats, Wrong}
+use Rattle.value.specs.declared.ops.Number.the-variants as N
 
 pub data Result : Type 0 where
   is : Datum → Result
@@ -31,199 +34,203 @@ abbrev pub resultOf : Answer → Result
 resultOf (A.Is v) = is (meaning v)
 resultOf (A.Fault n) = fault n
 
--- ---- two numbers of one kind: two integers, or two floats, where an integer that meets a float lies in -2^53..2^53
+-- ---- numbers: anything else counts as Nil
 
-abbrev pub numberOf : Datum → Number
-numberOf nil = Other
-numberOf (bool b) = Other
-numberOf (int n) = Int n
-numberOf (float p) = Float p
+unfoldable pub isNumber : Datum → Bool
+isNumber nil = false
+isNumber (bool b) = false
+isNumber (int n) = true
+isNumber (float p) = true
 
-abbrev pub converts : ℤ → Bool
-converts n = leb (natAbs n) (2 ^ 53)
+unfoldable pub asNumber : Datum → Datum
+asNumber nil = nil
+asNumber (bool b) = nil
+asNumber (int n) = int n
+asNumber (float p) = float p
 
-abbrev pub withFloat : ℤ → ℕ → Operands
-withFloat n q = cond (converts n) (Floats (F.ofInt n) q) (Wrong notExact)
+-- what the code sees of a value, and whether it is a number
+unfoldable pub shown : Number → Datum
+shown (N.Int p) = int (toZ w64 p)
+shown (N.Float p) = float p
+shown N.Other = nil
 
-abbrev pub withInt : ℕ → ℤ → Operands
-withInt p n = cond (converts n) (Floats p (F.ofInt n)) (Wrong notExact)
+abbrev pub counts : Number → Bool
+counts (N.Int p) = true
+counts (N.Float p) = true
+counts N.Other = false
 
-abbrev pub pairUp : Number → Number → Operands
-pairUp (Int a) (Int b) = Ints a b
-pairUp (Int a) (Float q) = withFloat a q
-pairUp (Int a) Other = Wrong wrongKind
-pairUp (Float p) (Int b) = withInt p b
-pairUp (Float p) (Float q) = Floats p q
-pairUp (Float p) Other = Wrong wrongKind
-pairUp Other y = Wrong wrongKind
+-- r, where both are numbers: 20 comes first
+unfoldable pub ofNumbers : Datum → Datum → Result → Result
+ofNumbers x y r = cond (isNumber x && isNumber y) r (fault wrongKind)
 
-abbrev pub operandsOf : Datum → Datum → Operands
-operandsOf x y = pairUp (numberOf x) (numberOf y)
+-- ---- Add, Sub, Mul: two Ints give the exact Int or 21; with a Float, each as a Float
 
--- ---- Add, Sub, Mul
+unfoldable pub fromInt : Outcome → Result
+fromInt (I.number z) = is (int z)
+fromInt (I.fault n) = fault n
 
--- the exact integer or 21
-abbrev pub exactly : ℤ → Result
-exactly z = cond (inRange z) (is (int z)) (fault overflow)
+-- The conversion rule of arithmetic: an Int in -2^53..2^53 is the Float of that value, any other is none.
+unfoldable pub converted : Datum → Whole
+converted nil = Wide
+converted (bool b) = Wide
+converted (int n) = cond (leb (natAbs n) (2 ^ 53)) (Is (F.ofInt n)) Wide
+converted (float p) = Is p
 
-abbrev pub ofNum : Num → Answer
-ofNum (N.Is z) = A.Is (C.Int z)
-ofNum N.Over = A.Fault 21
+-- where one is none: 23
+unfoldable pub floats : FloatOp.Op → Whole → Whole → Result
+floats op (Is p) (Is q) = is (float (F.operate op (read p) (read q)))
+floats op (Is p) Wide = fault notExact
+floats op Wide y = fault notExact
 
-abbrev pub arith : (ℤ → ℤ → ℤ) → (Real → Real → ℕ) → Operands → Result
-arith f g (Ints a b) = exactly (f a b)
-arith f g (Floats p q) = is (float (g (read p) (read q)))
-arith f g (Wrong n) = fault n
+unfoldable pub asFloats : FloatOp.Op → Datum → Datum → Result
+asFloats op x y = floats op (converted x) (converted y)
 
-abbrev pub addOf : Datum → Datum → Result
-addOf x y = arith _+ℤ_ F.add (operandsOf x y)
+unfoldable pub arithNumbers : IntOp.Op → FloatOp.Op → Datum → Datum → Result
+arithNumbers i f nil y = asFloats f nil y
+arithNumbers i f (bool b) y = asFloats f (bool b) y
+arithNumbers i f (int a) nil = asFloats f (int a) nil
+arithNumbers i f (int a) (bool b) = asFloats f (int a) (bool b)
+arithNumbers i f (int a) (int b) = fromInt (I.operate i a b)
+arithNumbers i f (int a) (float q) = asFloats f (int a) (float q)
+arithNumbers i f (float p) y = asFloats f (float p) y
 
-abbrev pub subOf : Datum → Datum → Result
-subOf x y = arith _-ℤ_ F.sub (operandsOf x y)
+unfoldable pub arithOf : IntOp.Op → FloatOp.Op → Datum → Datum → Result
+arithOf i f x y = ofNumbers x y (arithNumbers i f x y)
 
-abbrev pub mulOf : Datum → Datum → Result
-mulOf x y = arith _*ℤ_ F.mul (operandsOf x y)
+-- ---- Minus: Mul by Int -1
 
--- Mul by Int -1
 abbrev pub minusOf : Datum → Result
-minusOf x = mulOf x (int (negsuc 0))
+minusOf x = arithOf IO.Mul FO.Mul x (int (negsuc 0))
 
--- ---- Div: both as floats
+-- ---- Div: both as Floats
 
-abbrev pub widen : Operands → Operands
-widen (Ints a b) = cond (converts a) (withInt (F.ofInt a) b) (Wrong notExact)
-widen (Floats p q) = Floats p q
-widen (Wrong n) = Wrong n
+unfoldable pub divOf : Datum → Datum → Result
+divOf x y = ofNumbers x y (asFloats FO.Div x y)
 
-abbrev pub quotient : Operands → Result
-quotient (Ints a b) = fault notExact
-quotient (Floats p q) = is (float (F.div (read p) (read q)))
-quotient (Wrong n) = fault n
+-- ---- Mod, the bit operators, the shifts: Ints only
 
-abbrev pub divOf : Datum → Datum → Result
-divOf x y = quotient (widen (operandsOf x y))
+unfoldable pub wholeOf : IntOp.Op → Datum → Datum → Result
+wholeOf op nil y = fault wrongKind
+wholeOf op (bool b) y = fault wrongKind
+wholeOf op (int a) nil = fault wrongKind
+wholeOf op (int a) (bool b) = fault wrongKind
+wholeOf op (int a) (int b) = fromInt (I.operate op a b)
+wholeOf op (int a) (float q) = fault wrongKind
+wholeOf op (float p) y = fault wrongKind
 
--- ---- integers only: bits, Mod, shifts
+-- ---- order: numbers only
 
-abbrev pub wholeUp : Number → Number → Operands
-wholeUp (Int a) (Int b) = Ints a b
-wholeUp (Int a) (Float q) = Wrong wrongKind
-wholeUp (Int a) Other = Wrong wrongKind
-wholeUp (Float p) y = Wrong wrongKind
-wholeUp Other y = Wrong wrongKind
+abbrev pub truth : Bool → Result
+truth b = is (bool b)
 
-abbrev pub wholesOf : Datum → Datum → Operands
-wholesOf x y = wholeUp (numberOf x) (numberOf y)
+-- How an Int stands to a Float, or that the two may not be compared: an Int in -2^53..2^53 is compared as the Float of that value, any other is 23.
+pub data Standing : Type 0 where
+  stands : Order → Standing
+  apart : Standing
 
-abbrev pub whole : (ℤ → ℤ → Result) → Operands → Result
-whole f (Ints a b) = f a b
-whole f (Floats p q) = fault wrongKind
-whole f (Wrong n) = fault n
+unfoldable pub standing : ℤ → ℕ → Standing
+standing n q = cond (leb (natAbs n) (2 ^ 53)) (stands (F.order (read (F.ofInt n)) (read q))) apart
 
--- on the two's complement patterns
-abbrev pub bitwise : (ℕ → ℕ → ℕ) → ℤ → ℤ → Result
-bitwise f a b = is (int (toZ w64 (f (ofZ w64 a) (ofZ w64 b))))
+unfoldable pub judged : Cmp → Standing → Result
+judged c (stands o) = truth (holds c o)
+judged c apart = fault notExact
 
-abbrev pub andOf : Datum → Datum → Result
-andOf x y = whole (bitwise bitAnd) (wholesOf x y)
+-- an Int with a Float
+unfoldable pub mixed : Cmp → ℤ → ℕ → Result
+mixed c n q = judged c (standing n q)
 
-abbrev pub orOf : Datum → Datum → Result
-orOf x y = whole (bitwise bitOr) (wholesOf x y)
+-- a Float with an Int: the comparison with its operands exchanged
+abbrev pub mirror : Cmp → Cmp
+mirror Eq = Eq
+mirror Ne = Ne
+mirror Lt = Gt
+mirror Le = Ge
+mirror Gt = Lt
+mirror Ge = Le
 
-abbrev pub xorOf : Datum → Datum → Result
-xorOf x y = whole (bitwise bitXor) (wholesOf x y)
+unfoldable pub compareNumbers : Cmp → Datum → Datum → Result
+compareNumbers c nil y = fault wrongKind
+compareNumbers c (bool b) y = fault wrongKind
+compareNumbers c (int a) nil = fault wrongKind
+compareNumbers c (int a) (bool b) = fault wrongKind
+compareNumbers c (int a) (int b) = truth (holds c (orderZ a b))
+compareNumbers c (int a) (float q) = mixed c a q
+compareNumbers c (float p) nil = fault wrongKind
+compareNumbers c (float p) (bool b) = fault wrongKind
+compareNumbers c (float p) (int b) = mixed (mirror c) b p
+compareNumbers c (float p) (float q) = truth (holds c (F.order (read p) (read q)))
 
--- the sign of the dividend; by zero 22
-abbrev pub remainder : ℤ → ℤ → Result
-remainder a b = cond (eqb (natAbs b) 0) (fault modByZero) (is (int (remZ a b)))
-
-abbrev pub remOf : Datum → Datum → Result
-remOf x y = whole remainder (wholesOf x y)
-
--- a shift's amount is 0 to 63, else 24
-abbrev pub shifts : ℤ → Bool
-shifts (pos k) = ltb k 64
-shifts (negsuc k) = false
-
-abbrev pub shiftedLeft : ℤ → ℤ → Result
-shiftedLeft a b = cond (shifts b) (exactly (a *ℤ pos (2 ^ natAbs b))) (fault badShift)
-
--- toward minus infinity
-abbrev pub shiftedRight : ℤ → ℤ → Result
-shiftedRight a b = cond (shifts b) (is (int (shrZ a (2 ^ natAbs b)))) (fault badShift)
-
-abbrev pub shlOf : Datum → Datum → Result
-shlOf x y = whole shiftedLeft (wholesOf x y)
-
-abbrev pub shrOf : Datum → Datum → Result
-shrOf x y = whole shiftedRight (wholesOf x y)
-
--- ---- order: numbers only. a > b is b < a, and a >= b is b <= a
-
-abbrev pub compared : (ℤ → ℤ → Bool) → (Real → Real → Bool) → Operands → Result
-compared f g (Ints a b) = is (bool (f a b))
-compared f g (Floats p q) = is (bool (g (read p) (read q)))
-compared f g (Wrong n) = fault n
-
-abbrev pub ltOf : Datum → Datum → Result
-ltOf x y = compared ltZ F.lt (operandsOf x y)
-
-abbrev pub leOf : Datum → Datum → Result
-leOf x y = compared leZ F.le (operandsOf x y)
-
--- ---- Eq: any two values. Different kinds are unequal, but for an integer and a float
-
-abbrev pub eqZ : ℤ → ℤ → Bool
-eqZ (pos a) (pos b) = eqb a b
-eqZ (pos a) (negsuc b) = false
-eqZ (negsuc a) (pos b) = false
-eqZ (negsuc a) (negsuc b) = eqb a b
-
-abbrev pub isNil : Datum → Bool
-isNil nil = true
-isNil (bool c) = false
-isNil (int b) = false
-isNil (float q) = false
-
-abbrev pub isBool : Bool → Datum → Bool
-isBool b nil = false
-isBool b (bool c) = Bool·beq b c
-isBool b (int n) = false
-isBool b (float q) = false
-
-abbrev pub eqOf : Datum → Datum → Result
-eqOf nil y = is (bool (isNil y))
-eqOf (bool b) y = is (bool (isBool b y))
-eqOf (int a) nil = is (bool false)
-eqOf (int a) (bool c) = is (bool false)
-eqOf (int a) (int b) = is (bool (eqZ a b))
-eqOf (int a) (float q) = compared eqZ F.eq (withFloat a q)
-eqOf (float p) nil = is (bool false)
-eqOf (float p) (bool c) = is (bool false)
-eqOf (float p) (int b) = compared eqZ F.eq (withInt p b)
-eqOf (float p) (float q) = is (bool (F.eq (read p) (read q)))
+-- ---- Eq, Ne: Nil and Bool too. Different kinds are unequal, but for an Int and a Float
 
 -- one kind and one payload
-abbrev pub same : Datum → Datum → Bool
+unfoldable pub same : Datum → Datum → Bool
 same x y = cond (eqb (kindOf x) (kindOf y)) (eqb (payloadOf x) (payloadOf y)) false
 
--- ---- Not: a Bool's. Ne is Not of Eq
+unfoldable pub compareOthers : Cmp → Bool → Result
+compareOthers Eq s = truth s
+compareOthers Ne s = truth (not s)
+compareOthers Lt s = fault wrongKind
+compareOthers Le s = fault wrongKind
+compareOthers Gt s = fault wrongKind
+compareOthers Ge s = fault wrongKind
 
-abbrev pub notOf : Datum → Result
+unfoldable pub compareOf : Cmp → Datum → Datum → Result
+compareOf c x y = cond (isNumber x && isNumber y) (compareNumbers c x y) (compareOthers c (same x y))
+
+-- ---- Not: a Bool's
+
+unfoldable pub notOf : Datum → Result
 notOf nil = fault wrongKind
-notOf (bool b) = is (bool (not b))
+notOf (bool b) = truth (not b)
 notOf (int n) = fault wrongKind
 notOf (float p) = fault wrongKind
 
-abbrev pub negate : Result → Result
+unfoldable pub negate : Result → Result
 negate (is v) = notOf v
 negate (fault n) = fault n
 
+-- ---- by name, and by the node kind
+
+abbrev pub andOf : Datum → Datum → Result
+andOf x y = wholeOf IO.And x y
+
+abbrev pub orOf : Datum → Datum → Result
+orOf x y = wholeOf IO.Or x y
+
+abbrev pub xorOf : Datum → Datum → Result
+xorOf x y = wholeOf IO.Xor x y
+
+abbrev pub shlOf : Datum → Datum → Result
+shlOf x y = wholeOf IO.Shl x y
+
+abbrev pub shrOf : Datum → Datum → Result
+shrOf x y = wholeOf IO.Shr x y
+
+abbrev pub addOf : Datum → Datum → Result
+addOf x y = arithOf IO.Add FO.Add x y
+
+abbrev pub subOf : Datum → Datum → Result
+subOf x y = arithOf IO.Sub FO.Sub x y
+
+abbrev pub mulOf : Datum → Datum → Result
+mulOf x y = arithOf IO.Mul FO.Mul x y
+
+abbrev pub remOf : Datum → Datum → Result
+remOf x y = wholeOf IO.Rem x y
+
+abbrev pub eqOf : Datum → Datum → Result
+eqOf x y = compareOf Eq x y
+
 abbrev pub neOf : Datum → Datum → Result
-neOf x y = negate (eqOf x y)
+neOf x y = compareOf Ne x y
 
--- ---- by the node kind, 8 to 23
+abbrev pub ltOf : Datum → Datum → Result
+ltOf x y = compareOf Lt x y
 
+abbrev pub leOf : Datum → Datum → Result
+leOf x y = compareOf Le x y
+
+-- a > b is b < a, and a >= b is b <= a
 abbrev pub binaryOf : ℕ → Datum → Datum → Result
 binaryOf k x y =
     (cond (eqb k 8) (andOf x y)

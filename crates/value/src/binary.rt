@@ -6,27 +6,29 @@ ghost use Rattle.value.specs.Ops.{resultOf};
 use crate::ops;
 use crate::ops::Answer;
 use crate::value::Value;
+use int64::Cmp;
+use int64::Op;
 
 pub fn binary(kind: u64, a: Value, b: Value) -> Answer
     ensures { λ r. ⌜ resultOf r ≡ Ops.binaryOf kind (meaning a) (meaning b) ⌝ }
 {
     match kind {
-        8 => ops::and(a, b),
-        9 => ops::or(a, b),
-        10 => ops::xor(a, b),
-        11 => ops::shl(a, b),
-        12 => ops::shr(a, b),
-        13 => ops::add(a, b),
-        14 => ops::sub(a, b),
-        15 => ops::mul(a, b),
+        8 => ops::whole(Op::And, a, b),
+        9 => ops::whole(Op::Or, a, b),
+        10 => ops::whole(Op::Xor, a, b),
+        11 => ops::whole(Op::Shl, a, b),
+        12 => ops::whole(Op::Shr, a, b),
+        13 => ops::arith(Op::Add, float::Op::Add, a, b),
+        14 => ops::arith(Op::Sub, float::Op::Sub, a, b),
+        15 => ops::arith(Op::Mul, float::Op::Mul, a, b),
         16 => ops::div(a, b),
-        17 => ops::rem(a, b),
-        18 => ops::eq(a, b),
-        19 => ops::ne(a, b),
-        20 => ops::lt(a, b),
-        21 => ops::le(a, b),
-        22 => ops::gt(a, b),
-        23 => ops::ge(a, b),
+        17 => ops::whole(Op::Rem, a, b),
+        18 => ops::compare(Cmp::Eq, a, b),
+        19 => ops::compare(Cmp::Ne, a, b),
+        20 => ops::compare(Cmp::Lt, a, b),
+        21 => ops::compare(Cmp::Le, a, b),
+        22 => ops::compare(Cmp::Lt, b, a),
+        23 => ops::compare(Cmp::Le, b, a),
         _ => Answer::Fault(faults::WRONG_KIND),
     }
 }

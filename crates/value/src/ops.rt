@@ -1,40 +1,36 @@
-// The operations on values, each with its faults: 20, 23, then 22 or 24, then 21.
+// The operators on values, each with its faults in the order 20, 23, then 22 or 24, then 21.
 ghost use mathlib.Core.Path.{_≡_};
+ghost use mathlib.Core.Bool.{_&&_};
 ghost use Rattle.value.specs.Value.{meaning, float};
-ghost use Prim.Native.Nat.{_≤_, _^_};
-ghost use lib.IntN.{natAbs};
-ghost use Rattle.float.specs.Binary64 as F;
 ghost use Rattle.value.specs.Ops as Ops;
-ghost use Rattle.value.specs.Ops.{resultOf};
+ghost use Rattle.value.specs.Ops.{resultOf, shown};
+ghost use mir.Syntax.{w64};
+ghost use mir.Val.{toZ};
+ghost use Rattle.int64.specs.Int.{outcomeOf};
 use crate::value;
 use crate::value::Value;
+use float::Whole;
+use int64::Cmp;
 use int64::Num;
 
-// What an operation gives: a value, or the number of its fault.
+// What an operator gives: a value, or the number of its fault.
 pub enum Answer {
     Is(Value),
     Fault(u8),
 }
 
-// A value as a number: an integer, a float by its pattern, or none.
+// A value as a number, by its pattern. An enum of two kinds in place of the f64 and the NaN of `Value`.
 pub enum Number {
-    Int(i64),
+    Int(u64),
     Float(u64),
     Other,
 }
 
-// Two operands as numbers of one kind, or a fault.
-pub enum Operands {
-    Ints(i64, i64),
-    Floats(u64, u64),
-    Wrong(u8),
-}
-
 pub fn number_of(v: Value) -> Number
-    ensures { λ r. ⌜ r ≡ Ops.numberOf (meaning v) ⌝ }
+    ensures { λ r. ⌜ shown r ≡ Ops.asNumber (meaning v) ⌝ }
 {
     match v {
-        Value::Int(n) => Number::Int(n),
+        Value::Int(n) => Number::Int(int64::pattern(n)),
         Value::Float(x) => Number::Float(float::pattern(x)),
         Value::Nan(p) => Number::Float(p),
         Value::Nil => Number::Other,
@@ -42,63 +38,28 @@ pub fn number_of(v: Value) -> Number
     }
 }
 
-// Whether an integer may meet a float.
-pub fn converts(n: i64) -> bool
-    ensures { λ r. ⌜ r ≡ Ops.converts n ⌝ }
-{
-    int64::size(n) <= 0x20_0000_0000_0000
-}
-
-// An integer and a float.
-fn with_float(n: i64, q: u64) -> Operands
-    ensures { λ r. ⌜ r ≡ Ops.withFloat n q ⌝ }
-{
-    if converts(n) {
-        return Operands::Floats(float::from_int(n), q);
-    }
-    Operands::Wrong(faults::NOT_EXACT)
-}
-
-// A float and an integer.
-fn with_int(p: u64, n: i64) -> Operands
-    ensures { λ r. ⌜ r ≡ Ops.withInt p n ⌝ }
-{
-    if converts(n) {
-        return Operands::Floats(p, float::from_int(n));
-    }
-    Operands::Wrong(faults::NOT_EXACT)
-}
-
-pub fn pair_up(a: Number, b: Number) -> Operands
-    ensures { λ r. ⌜ r ≡ Ops.pairUp a b ⌝ }
+fn is_number(a: Number) -> bool
+    ensures { λ r. ⌜ r ≡ Ops.counts a ⌝ }
 {
     match a {
-        Number::Int(x) => match b {
-            Number::Int(y) => Operands::Ints(x, y),
-            Number::Float(q) => with_float(x, q),
-            Number::Other => Operands::Wrong(faults::WRONG_KIND),
-        },
-        Number::Float(p) => match b {
-            Number::Int(y) => with_int(p, y),
-            Number::Float(q) => Operands::Floats(p, q),
-            Number::Other => Operands::Wrong(faults::WRONG_KIND),
-        },
-        Number::Other => Operands::Wrong(faults::WRONG_KIND),
+        Number::Int(_) => true,
+        Number::Float(_) => true,
+        Number::Other => false,
     }
 }
 
-pub fn operands_of(a: Value, b: Value) -> Operands
-    ensures { λ r. ⌜ r ≡ Ops.operandsOf (meaning a) (meaning b) ⌝ }
+fn both_numbers(a: Number, b: Number) -> bool
+    ensures { λ r. ⌜ r ≡ (Ops.counts a && Ops.counts b) ⌝ }
 {
-    pair_up(number_of(a), number_of(b))
+    is_number(a) && is_number(b)
 }
 
 fn int_answer(n: Num) -> Answer
-    ensures { λ r. ⌜ r ≡ Ops.ofNum n ⌝ }
+    ensures { λ r. ⌜ resultOf r ≡ Ops.fromInt (outcomeOf n) ⌝ }
 {
     match n {
-        Num::Is(z) => Answer::Is(Value::Int(z)),
-        Num::Over => Answer::Fault(faults::OVERFLOW),
+        Num::Is(p) => Answer::Is(Value::Int(int64::signed(p))),
+        Num::Fault(f) => Answer::Fault(f),
     }
 }
 
@@ -108,232 +69,148 @@ fn float_answer(p: u64) -> Answer
     Answer::Is(value::of_pattern(p))
 }
 
-pub fn add(a: Value, b: Value) -> Answer
-    ensures { λ r. ⌜ resultOf r ≡ Ops.addOf (meaning a) (meaning b) ⌝ }
+fn bool_answer(b: bool) -> Answer
+    ensures { λ r. ⌜ resultOf r ≡ Ops.truth b ⌝ }
 {
-    let o = operands_of(a, b);
-    match o {
-        Operands::Ints(x, y) => int_answer(int64::add(x, y)),
-        Operands::Floats(p, q) => float_answer(float::add(p, q)),
-        Operands::Wrong(n) => Answer::Fault(n),
+    Answer::Is(Value::Bool(b))
+}
+
+// The conversion rule of arithmetic: the float that a number is.
+fn float_of(a: Number) -> Whole
+    ensures { λ r. ⌜ r ≡ Ops.converted (shown a) ⌝ }
+{
+    match a {
+        Number::Int(p) => float::from_int(p),
+        Number::Float(p) => Whole::Is(p),
+        Number::Other => Whole::Wide,
     }
 }
 
-pub fn sub(a: Value, b: Value) -> Answer
-    ensures { λ r. ⌜ resultOf r ≡ Ops.subOf (meaning a) (meaning b) ⌝ }
+// Two floats, of which one or both may not exist.
+fn floats(op: float::Op, x: Whole, y: Whole) -> Answer
+    ensures { λ r. ⌜ resultOf r ≡ Ops.floats op x y ⌝ }
 {
-    let o = operands_of(a, b);
-    match o {
-        Operands::Ints(x, y) => int_answer(int64::sub(x, y)),
-        Operands::Floats(p, q) => float_answer(float::sub(p, q)),
-        Operands::Wrong(n) => Answer::Fault(n),
+    match x {
+        Whole::Is(p) => match y {
+            Whole::Is(q) => float_answer(float::operate(op, p, q)),
+            Whole::Wide => Answer::Fault(faults::NOT_EXACT),
+        },
+        Whole::Wide => Answer::Fault(faults::NOT_EXACT),
     }
 }
 
-pub fn mul(a: Value, b: Value) -> Answer
-    ensures { λ r. ⌜ resultOf r ≡ Ops.mulOf (meaning a) (meaning b) ⌝ }
+fn as_floats(op: float::Op, a: Number, b: Number) -> Answer
+    ensures { λ r. ⌜ resultOf r ≡ Ops.asFloats op (shown a) (shown b) ⌝ }
 {
-    let o = operands_of(a, b);
-    match o {
-        Operands::Ints(x, y) => int_answer(int64::mul(x, y)),
-        Operands::Floats(p, q) => float_answer(float::mul(p, q)),
-        Operands::Wrong(n) => Answer::Fault(n),
+    floats(op, float_of(a), float_of(b))
+}
+
+fn arith_numbers(i: int64::Op, f: float::Op, a: Number, b: Number) -> Answer
+    ensures { λ r. ⌜ resultOf r ≡ Ops.arithNumbers i f (shown a) (shown b) ⌝ }
+{
+    match a {
+        Number::Int(p) => match b {
+            Number::Int(q) => int_answer(int64::operate(i, p, q)),
+            Number::Float(_) => as_floats(f, a, b),
+            Number::Other => as_floats(f, a, b),
+        },
+        Number::Float(_) => as_floats(f, a, b),
+        Number::Other => as_floats(f, a, b),
     }
 }
 
+// Add, Sub, Mul: i for two Ints, f with a Float.
+pub fn arith(i: int64::Op, f: float::Op, a: Value, b: Value) -> Answer
+    ensures { λ r. ⌜ resultOf r ≡ Ops.arithOf i f (meaning a) (meaning b) ⌝ }
+{
+    let x = number_of(a);
+    let y = number_of(b);
+    if both_numbers(x, y) {
+        return arith_numbers(i, f, x, y);
+    }
+    Answer::Fault(faults::WRONG_KIND)
+}
+
+// Mul by Int -1.
 pub fn minus(v: Value) -> Answer
     ensures { λ r. ⌜ resultOf r ≡ Ops.minusOf (meaning v) ⌝ }
 {
-    mul(v, Value::Int(-1))
-}
-
-// Two integers as floats.
-fn widened(o: Operands) -> Operands
-    ensures { λ r. ⌜ r ≡ Ops.widen o ⌝ }
-{
-    match o {
-        Operands::Ints(x, y) => {
-            if converts(x) {
-                return with_float_of(x, y);
-            }
-            Operands::Wrong(faults::NOT_EXACT)
-        }
-        Operands::Floats(p, q) => Operands::Floats(p, q),
-        Operands::Wrong(n) => Operands::Wrong(n),
-    }
-}
-
-fn with_float_of(x: i64, y: i64) -> Operands
-    requires { ⌜ natAbs x ≤ 2 ^ 53 ⌝ }
-    ensures { λ r. ⌜ r ≡ Ops.withInt (F.ofInt x) y ⌝ }
-{
-    with_int(float::from_int(x), y)
+    arith(int64::Op::Mul, float::Op::Mul, v, Value::Int(-1))
 }
 
 pub fn div(a: Value, b: Value) -> Answer
     ensures { λ r. ⌜ resultOf r ≡ Ops.divOf (meaning a) (meaning b) ⌝ }
 {
-    let o = widened(operands_of(a, b));
-    match o {
-        Operands::Ints(_, _) => Answer::Fault(faults::NOT_EXACT),
-        Operands::Floats(p, q) => float_answer(float::div(p, q)),
-        Operands::Wrong(n) => Answer::Fault(n),
+    let x = number_of(a);
+    let y = number_of(b);
+    if both_numbers(x, y) {
+        return as_floats(float::Op::Div, x, y);
     }
+    Answer::Fault(faults::WRONG_KIND)
 }
 
-// Two integers, for the operations that take nothing else.
-fn whole_up(a: Number, b: Number) -> Operands
-    ensures { λ r. ⌜ r ≡ Ops.wholeUp a b ⌝ }
+fn whole_numbers(op: int64::Op, a: Number, b: Number) -> Answer
+    ensures { λ r. ⌜ resultOf r ≡ Ops.wholeOf op (shown a) (shown b) ⌝ }
 {
     match a {
-        Number::Int(x) => match b {
-            Number::Int(y) => Operands::Ints(x, y),
-            Number::Float(_) => Operands::Wrong(faults::WRONG_KIND),
-            Number::Other => Operands::Wrong(faults::WRONG_KIND),
+        Number::Int(p) => match b {
+            Number::Int(q) => int_answer(int64::operate(op, p, q)),
+            Number::Float(_) => Answer::Fault(faults::WRONG_KIND),
+            Number::Other => Answer::Fault(faults::WRONG_KIND),
         },
-        Number::Float(_) => Operands::Wrong(faults::WRONG_KIND),
-        Number::Other => Operands::Wrong(faults::WRONG_KIND),
+        Number::Float(_) => Answer::Fault(faults::WRONG_KIND),
+        Number::Other => Answer::Fault(faults::WRONG_KIND),
     }
 }
 
-pub fn wholes_of(a: Value, b: Value) -> Operands
-    ensures { λ r. ⌜ r ≡ Ops.wholesOf (meaning a) (meaning b) ⌝ }
+// Mod, the bit operators and the shifts: Ints only.
+pub fn whole(op: int64::Op, a: Value, b: Value) -> Answer
+    ensures { λ r. ⌜ resultOf r ≡ Ops.wholeOf op (meaning a) (meaning b) ⌝ }
 {
-    whole_up(number_of(a), number_of(b))
+    whole_numbers(op, number_of(a), number_of(b))
 }
 
-pub fn and(a: Value, b: Value) -> Answer
-    ensures { λ r. ⌜ resultOf r ≡ Ops.andOf (meaning a) (meaning b) ⌝ }
+// The comparison with its operands exchanged.
+fn mirror(op: Cmp) -> Cmp
+    ensures { λ r. ⌜ r ≡ Ops.mirror op ⌝ }
 {
-    let o = wholes_of(a, b);
-    match o {
-        Operands::Ints(x, y) => Answer::Is(Value::Int(int64::and(x, y))),
-        Operands::Floats(_, _) => Answer::Fault(faults::WRONG_KIND),
-        Operands::Wrong(n) => Answer::Fault(n),
+    match op {
+        Cmp::Eq => Cmp::Eq,
+        Cmp::Ne => Cmp::Ne,
+        Cmp::Lt => Cmp::Gt,
+        Cmp::Le => Cmp::Ge,
+        Cmp::Gt => Cmp::Lt,
+        Cmp::Ge => Cmp::Le,
     }
 }
 
-pub fn or(a: Value, b: Value) -> Answer
-    ensures { λ r. ⌜ resultOf r ≡ Ops.orOf (meaning a) (meaning b) ⌝ }
+// The comparison rule: the Int of pattern p with the Float of pattern q.
+fn mixed(op: Cmp, p: u64, q: u64) -> Answer
+    ensures { λ r. ⌜ resultOf r ≡ Ops.mixed op (toZ w64 p) q ⌝ }
 {
-    let o = wholes_of(a, b);
-    match o {
-        Operands::Ints(x, y) => Answer::Is(Value::Int(int64::or(x, y))),
-        Operands::Floats(_, _) => Answer::Fault(faults::WRONG_KIND),
-        Operands::Wrong(n) => Answer::Fault(n),
+    let w = float::from_int(p);
+    match w {
+        Whole::Is(n) => bool_answer(float::compare(op, n, q)),
+        Whole::Wide => Answer::Fault(faults::NOT_EXACT),
     }
 }
 
-pub fn xor(a: Value, b: Value) -> Answer
-    ensures { λ r. ⌜ resultOf r ≡ Ops.xorOf (meaning a) (meaning b) ⌝ }
+fn compare_numbers(op: Cmp, a: Number, b: Number) -> Answer
+    ensures { λ r. ⌜ resultOf r ≡ Ops.compareNumbers op (shown a) (shown b) ⌝ }
 {
-    let o = wholes_of(a, b);
-    match o {
-        Operands::Ints(x, y) => Answer::Is(Value::Int(int64::xor(x, y))),
-        Operands::Floats(_, _) => Answer::Fault(faults::WRONG_KIND),
-        Operands::Wrong(n) => Answer::Fault(n),
+    match a {
+        Number::Int(p) => match b {
+            Number::Int(q) => bool_answer(int64::compare(op, p, q)),
+            Number::Float(q) => mixed(op, p, q),
+            Number::Other => Answer::Fault(faults::WRONG_KIND),
+        },
+        Number::Float(p) => match b {
+            Number::Int(q) => mixed(mirror(op), q, p),
+            Number::Float(q) => bool_answer(float::compare(op, p, q)),
+            Number::Other => Answer::Fault(faults::WRONG_KIND),
+        },
+        Number::Other => Answer::Fault(faults::WRONG_KIND),
     }
-}
-
-fn rem_of(x: i64, y: i64) -> Answer
-    ensures { λ r. ⌜ resultOf r ≡ Ops.remainder x y ⌝ }
-{
-    if int64::size(y) == 0 {
-        return Answer::Fault(faults::MOD_BY_ZERO);
-    }
-    Answer::Is(Value::Int(int64::rem(x, y)))
-}
-
-// Whether an integer is a shift's amount.
-fn shifts(k: i64) -> bool
-    ensures { λ r. ⌜ r ≡ Ops.shifts k ⌝ }
-{
-    if k >= 0 { int64::size(k) < 64 } else { false }
-}
-
-fn shl_of(x: i64, y: i64) -> Answer
-    ensures { λ r. ⌜ resultOf r ≡ Ops.shiftedLeft x y ⌝ }
-{
-    if shifts(y) {
-        return int_answer(int64::shl(x, int64::size(y)));
-    }
-    Answer::Fault(faults::BAD_SHIFT)
-}
-
-fn shr_of(x: i64, y: i64) -> Answer
-    ensures { λ r. ⌜ resultOf r ≡ Ops.shiftedRight x y ⌝ }
-{
-    if shifts(y) {
-        return Answer::Is(Value::Int(int64::shr(x, int64::size(y))));
-    }
-    Answer::Fault(faults::BAD_SHIFT)
-}
-
-pub fn rem(a: Value, b: Value) -> Answer
-    ensures { λ r. ⌜ resultOf r ≡ Ops.remOf (meaning a) (meaning b) ⌝ }
-{
-    let o = wholes_of(a, b);
-    match o {
-        Operands::Ints(x, y) => rem_of(x, y),
-        Operands::Floats(_, _) => Answer::Fault(faults::WRONG_KIND),
-        Operands::Wrong(n) => Answer::Fault(n),
-    }
-}
-
-pub fn shl(a: Value, b: Value) -> Answer
-    ensures { λ r. ⌜ resultOf r ≡ Ops.shlOf (meaning a) (meaning b) ⌝ }
-{
-    let o = wholes_of(a, b);
-    match o {
-        Operands::Ints(x, y) => shl_of(x, y),
-        Operands::Floats(_, _) => Answer::Fault(faults::WRONG_KIND),
-        Operands::Wrong(n) => Answer::Fault(n),
-    }
-}
-
-pub fn shr(a: Value, b: Value) -> Answer
-    ensures { λ r. ⌜ resultOf r ≡ Ops.shrOf (meaning a) (meaning b) ⌝ }
-{
-    let o = wholes_of(a, b);
-    match o {
-        Operands::Ints(x, y) => shr_of(x, y),
-        Operands::Floats(_, _) => Answer::Fault(faults::WRONG_KIND),
-        Operands::Wrong(n) => Answer::Fault(n),
-    }
-}
-
-pub fn lt(a: Value, b: Value) -> Answer
-    ensures { λ r. ⌜ resultOf r ≡ Ops.ltOf (meaning a) (meaning b) ⌝ }
-{
-    let o = operands_of(a, b);
-    match o {
-        Operands::Ints(x, y) => Answer::Is(Value::Bool(x < y)),
-        Operands::Floats(p, q) => Answer::Is(Value::Bool(float::lt(p, q))),
-        Operands::Wrong(n) => Answer::Fault(n),
-    }
-}
-
-pub fn le(a: Value, b: Value) -> Answer
-    ensures { λ r. ⌜ resultOf r ≡ Ops.leOf (meaning a) (meaning b) ⌝ }
-{
-    let o = operands_of(a, b);
-    match o {
-        Operands::Ints(x, y) => Answer::Is(Value::Bool(x <= y)),
-        Operands::Floats(p, q) => Answer::Is(Value::Bool(float::le(p, q))),
-        Operands::Wrong(n) => Answer::Fault(n),
-    }
-}
-
-pub fn gt(a: Value, b: Value) -> Answer
-    ensures { λ r. ⌜ resultOf r ≡ Ops.ltOf (meaning b) (meaning a) ⌝ }
-{
-    lt(b, a)
-}
-
-pub fn ge(a: Value, b: Value) -> Answer
-    ensures { λ r. ⌜ resultOf r ≡ Ops.leOf (meaning b) (meaning a) ⌝ }
-{
-    le(b, a)
 }
 
 // Whether two values that are not both numbers are one.
@@ -346,27 +223,36 @@ fn same(a: Value, b: Value) -> bool
     false
 }
 
-pub fn eq(a: Value, b: Value) -> Answer
-    ensures { λ r. ⌜ resultOf r ≡ Ops.eqOf (meaning a) (meaning b) ⌝ }
+// Two values of which one is no number: they are equal or not, and have no order.
+fn compare_others(op: Cmp, same: bool) -> Answer
+    ensures { λ r. ⌜ resultOf r ≡ Ops.compareOthers op same ⌝ }
 {
-    let o = operands_of(a, b);
-    match o {
-        Operands::Ints(x, y) => Answer::Is(Value::Bool(x == y)),
-        Operands::Floats(p, q) => Answer::Is(Value::Bool(float::eq(p, q))),
-        Operands::Wrong(n) => {
-            if n == faults::NOT_EXACT {
-                return Answer::Fault(faults::NOT_EXACT);
-            }
-            Answer::Is(Value::Bool(same(a, b)))
-        }
+    match op {
+        Cmp::Eq => bool_answer(same),
+        Cmp::Ne => bool_answer(!same),
+        Cmp::Lt => Answer::Fault(faults::WRONG_KIND),
+        Cmp::Le => Answer::Fault(faults::WRONG_KIND),
+        Cmp::Gt => Answer::Fault(faults::WRONG_KIND),
+        Cmp::Ge => Answer::Fault(faults::WRONG_KIND),
     }
+}
+
+pub fn compare(op: Cmp, a: Value, b: Value) -> Answer
+    ensures { λ r. ⌜ resultOf r ≡ Ops.compareOf op (meaning a) (meaning b) ⌝ }
+{
+    let x = number_of(a);
+    let y = number_of(b);
+    if both_numbers(x, y) {
+        return compare_numbers(op, x, y);
+    }
+    compare_others(op, same(a, b))
 }
 
 pub fn not(v: Value) -> Answer
     ensures { λ r. ⌜ resultOf r ≡ Ops.notOf (meaning v) ⌝ }
 {
     match v {
-        Value::Bool(b) => Answer::Is(Value::Bool(!b)),
+        Value::Bool(b) => bool_answer(!b),
         Value::Nil => Answer::Fault(faults::WRONG_KIND),
         Value::Int(_) => Answer::Fault(faults::WRONG_KIND),
         Value::Float(_) => Answer::Fault(faults::WRONG_KIND),
@@ -374,6 +260,7 @@ pub fn not(v: Value) -> Answer
     }
 }
 
+// Not of an answer, for a branch whose sense is turned.
 pub fn negated(r: Answer) -> Answer
     ensures { λ s. ⌜ resultOf s ≡ Ops.negate (resultOf r) ⌝ }
 {
@@ -381,10 +268,4 @@ pub fn negated(r: Answer) -> Answer
         Answer::Is(v) => not(v),
         Answer::Fault(n) => Answer::Fault(n),
     }
-}
-
-pub fn ne(a: Value, b: Value) -> Answer
-    ensures { λ r. ⌜ resultOf r ≡ Ops.neOf (meaning a) (meaning b) ⌝ }
-{
-    negated(eq(a, b))
 }

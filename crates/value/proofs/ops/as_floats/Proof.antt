@@ -1,0 +1,11 @@
+-- `ops::as_floats` meets its contract. Assumes nothing.
+use Rattle.value.proofs.Answers.{answers}
+use borrow.Author.Needs.{needs}
+use Rattle.value.proofs.ops.as_floats.Statement.{statement}
+use Rattle.value.proofs.ops.as_floats.Tie as tie
+
+returns : tie.Need-returns
+returns c = search (answers, needs)
+
+pub as-floats-spec : {M : Type 1} → statement M
+as-floats-spec = tie.close (tie.spec (λ c κs. search needs) (λ c κs. search needs) (λ c κs. search needs) returns)
