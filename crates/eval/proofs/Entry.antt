@@ -14,7 +14,8 @@ use Rattle.faults.proofs.Faults.{second, stop}
 use Rattle.table.specs.Table.{nodeCount, checkOf, Node}
 use Rattle.table.specs.Tree.{tree}
 use Rattle.table.specs.declared.Dest.the-variants.{None}
-use Rattle.table.proofs.Whole.{Accepted, accepted}
+use Rattle.table.specs.Accepted.{Accepted}
+use Rattle.table.proofs.Whole.{accepted}
 use Rattle.value.specs.Value.{allWell, datums}
 use Rattle.value.specs.Ops.{Result, fault as faulted}
 use Rattle.eval.specs.Eval.{evalOf}

@@ -79,7 +79,7 @@ fn leaf(k: u64, p: u64, kinds: &[u8], payloads: &[u64]) -> Answer
     }
 }
 
-// Minus or Not of an answer.
+// Minus or Not of an answer. Minus is Mul by Int -1, so `binary` has two callers here and stays a call, out of the recursion's frame.
 fn unary(k: u64, a: Answer) -> Answer
     ensures { λ r. ⌜ resultOf r ≡ aloneOf Unary k (resultOf a) ⌝ }
 {
@@ -87,7 +87,7 @@ fn unary(k: u64, a: Answer) -> Answer
         return a;
     };
     if k == table::MINUS {
-        return value::ops::minus(x);
+        return value::binary::binary(table::MUL, x, Value::Int(-1));
     }
     value::ops::not(x)
 }

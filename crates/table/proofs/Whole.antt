@@ -8,14 +8,16 @@ use lib.Dec.{eqb}
 use lib.ListN.{length}
 use mir.Syntax.{w64}
 use mir.Val.{Fits}
-use borrow.Author.Tests.{ltb-false, eqb-true, eqb-false, not-false}
+use borrow.Author.Tests.{leb-false, ltb-false, eqb-true, eqb-false, not-false}
 use Rattle.faults.specs.Limits.{maxNodes, maxDepth, maxRegisters}
 use Rattle.table.specs.Table.{nodeCount, firstAt, shapeFault, layoutFault, destFault, nodesFault, lastFault, checkOf, Node}
-use Rattle.table.specs.Tree.{Tree, tree, Holds, size, depth, RefsBelow}
+use Rattle.table.specs.Tree.{tree, size, depth}
+use Rattle.table.specs.Accepted.{Subtree, Accepted}
 use Rattle.table.specs.declared.Dest.{Dest}
+use Rattle.table.specs.declared.Dest.the-variants.{Reg}
 use Rattle.faults.proofs.Faults.{none-both, failed, stop, pass}
 use Rattle.table.proofs.Nodes.{ok}
-use Rattle.table.proofs.Held.{holds, only, told}
+use Rattle.table.proofs.Held.{subtree}
 
 pub record Shaped (ws : List ℕ) : Type 0 where
   pub some : 0 < nodeCount ws
@@ -44,16 +46,7 @@ some-node ws e z = shape-ok ws (sym e ∙ z) .some
 
 pub ruleset checks = (stop, pass, base-fits, some-node)
 
--- an accepted table holds one tree at its last node, of all its nodes, with every register below the base
-pub record Accepted (ws : List ℕ) (params locals : ℕ) : Type 0 where
-  pub root : Node ws (params + locals) (nodeCount ws - 1)
-  pub layout : params + locals ≤ maxRegisters
-  pub holds-it : Holds ws (nodeCount ws - 1) (tree ws (nodeCount ws - 1))
-  pub no-other : (t : Tree) → Holds ws (nodeCount ws - 1) t → tree ws (nodeCount ws - 1) ≡ t
-  pub whole : size (tree ws (nodeCount ws - 1)) ≡ nodeCount ws
-  pub shallow : depth (tree ws (nodeCount ws - 1)) ≤ maxDepth
-  pub refs : RefsBelow (params + locals) (tree ws (nodeCount ws - 1))
-
+-- an accepted table holds exactly one tree, of all its nodes, and each node its subtree
 pub accepted : (ws : List ℕ) (params locals : ℕ) (dest : Dest) → checkOf ws params locals dest ≡ 0 → Accepted ws params locals
 unfolding checkOf lastFault
 accepted ws params locals dest h =
@@ -66,13 +59,22 @@ accepted ws params locals dest h =
     let n : Node ws (params + locals) (nodeCount ws - 1) = record { checked = s .0; inside = omega arith } in
     let z : firstAt ws (nodeCount ws - 1) ≡ 0 = eqb-true _ _ (not-false _ (failed _ 1 (s .1))) in
     let o = ok ws base _ n in
-    let t = told ws base _ n in
+    let t = subtree ws base _ n in
     record {
-      root = n;
       layout = layout-ok params locals (q .0);
-      holds-it = holds ws base _ n;
-      no-other = λ u. only ws base u _ n;
+      some = sh .some;
+      few = sh .few;
+      root = n;
+      each = λ i l. subtree ws base i (record { checked = s .0; inside = l });
       whole = omega arith;
       shallow = omega arith;
       refs = t .refs;
     }
+
+-- and its destination, where there is one, is below the base
+pub dest-below : (ws : List ℕ) (params locals r : ℕ) → checkOf ws params locals (Reg r) ≡ 0 → r < params + locals
+unfolding checkOf destFault
+dest-below ws params locals r h =
+    let p = none-both _ _ h in
+    let q = none-both _ _ (p .1) in
+    leb-false _ _ (failed _ 3 (none-both _ _ (q .1) .0))

@@ -85,14 +85,14 @@ pub fn payload_at(nodes: &[u64], i: usize) -> u64
     nodes[4 * i + 1]
 }
 
-pub fn first_at(nodes: &[u64], i: usize) -> usize
+fn first_at(nodes: &[u64], i: usize) -> usize
     requires { ⌜ i < nodeCount (now nodes) ⌝ }
     ensures { λ r. ⌜ r ≡ firstAt (now (nodes .entry)) i ⌝ }
 {
     nodes[4 * i + 2] as usize
 }
 
-pub fn depth_at(nodes: &[u64], i: usize) -> u64
+fn depth_at(nodes: &[u64], i: usize) -> u64
     requires { ⌜ i < nodeCount (now nodes) ⌝ }
     ensures { λ r. ⌜ r ≡ depthAt (now (nodes .entry)) i ⌝ }
 {
@@ -202,11 +202,11 @@ fn node_fault(nodes: &[u64], base: u64, i: usize) -> u8
 {
     let k = kind_at(nodes, i);
     let p = payload_at(nodes, i);
+    let d = depth_at(nodes, i);
     let f = kind_fault(k, p);
     if f != faults::NONE {
         return f;
     }
-    let d = depth_at(nodes, i);
     let g = span_fault(children_of(nodes, arity_of(k), i), first_at(nodes, i), d);
     if g != faults::NONE {
         return g;
