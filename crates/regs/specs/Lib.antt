@@ -1,0 +1,2 @@
+-- What the contracts of the register counter cite.
+pub mod Counter
