@@ -2,3 +2,4 @@
 pub mod Laws
 pub mod Walk
 pub mod Entry
+pub mod Samples

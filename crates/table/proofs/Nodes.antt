@@ -9,7 +9,7 @@ use native.Mathlib.Numerals.{add-one, sub-one}
 use native.Mathlib.Omega.{arith}
 use lib.Dec.{leb, ltb, eqb}
 use lib.ListN.{getD}
-use borrow.Author.Tests.{ltb-false, eqb-true, eqb-false, leb-false, lt-leb, not-false, eq-eqb, ne-eqb}
+use borrow.Author.Tests.{ltb-false, eqb-true, eqb-false, leb-false, lt-leb, not-false, eq-eqb}
 use Rattle.faults.specs.Limits.{maxDepth}
 use Rattle.faults.specs.Faults.{fault, _or-else_}
 use Rattle.table.specs.Table.{kindAt, payloadAt, firstAt, depthAt, child1, child2, child3, arity, kindFault, limitFault, children, spanFault, nodeFault, nodesFault, nodeCount, Node, Child, Below}
@@ -54,16 +54,6 @@ lowest ws (suc n) e d f g low h =
     omega arith
 
 -- ---- one node
-
--- a depth is one more than another, tested from below
-pub zero-off : (d g : ℕ) → d ≡ 0 → eqb d (g + 1) ≡ false
-zero-off d g e = ne-eqb d (g + 1) (λ h. omega arith)
-
-pub one-off : (d g : ℕ) → (d - 1 ≡ g → ⊥) → eqb d (g + 1) ≡ false
-one-off d g n = ne-eqb d (g + 1) (λ h. n (omega arith))
-
-pub one-on : (d g : ℕ) → (d ≡ 0 → ⊥) → d - 1 ≡ g → eqb d (g + 1) ≡ true
-one-on d g n e = eq-eqb d (g + 1) (omega arith)
 
 pub record NodeOk (ws : List ℕ) (base i : ℕ) : Type 0 where
   pub known : kindAt ws i ≤ 26

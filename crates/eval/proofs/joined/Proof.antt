@@ -1,8 +1,15 @@
--- `eval::joined` meets its contract. Assumes nothing.
+-- `eval::joined` meets its contract: each arm knows the rule. Assumes nothing.
 use borrow.Author.Needs.{needs}
 use Rattle.eval.proofs.Laws.{rules}
 use Rattle.eval.proofs.joined.Statement.{statement}
 use Rattle.eval.proofs.joined.Tie as tie
 
+ruleset laws = (rules, needs)
+
 pub joined-spec : {M : Type 1} → statement M
-joined-spec = tie.close (tie.spec (λ c. search (rules, needs)) (λ c. search (rules, needs)) (λ c κs. search (rules, needs)) (λ c. search (rules, needs)) (λ c κs. search (rules, needs)) (λ c. search (rules, needs)) (λ c κs. search (rules, needs)) (λ c. search (rules, needs)) (λ c. search (rules, needs)) (λ c. search (rules, needs)) (λ c. search (rules, needs)) (λ c. search (rules, needs)) (λ c. search (rules, needs)))
+joined-spec =
+    tie.close
+    (tie.spec
+    (λ c. search laws) (λ c. search laws) (λ c κs. search laws) (λ c. search laws) (λ c κs. search laws)
+    (λ c. search laws) (λ c κs. search laws) (λ c. search laws) (λ c. search laws) (λ c. search laws)
+    (λ c. search laws) (λ c. search laws) (λ c. search laws))

@@ -1,8 +1,14 @@
--- `eval::operate` meets its contract. Assumes nothing.
+-- `eval::operate` meets its contract: the first fault returns, and then the operator. Assumes nothing.
 use borrow.Author.Needs.{needs}
 use Rattle.eval.proofs.Laws.{operates}
 use Rattle.eval.proofs.operate.Statement.{statement}
 use Rattle.eval.proofs.operate.Tie as tie
 
+ruleset laws = (operates, needs)
+
 pub operate-spec : {M : Type 1} → statement M
-operate-spec = tie.close (tie.spec (λ c. search (operates, needs)) (λ c. search (operates, needs)) (λ c. search (operates, needs)) (λ c. search (operates, needs)) (λ c. search (operates, needs)) (λ c. search (operates, needs)) (λ c κs. search (operates, needs)) (λ c. search (operates, needs)))
+operate-spec =
+    tie.close
+    (tie.spec
+    (λ c. search laws) (λ c. search laws) (λ c. search laws) (λ c. search laws) (λ c. search laws)
+    (λ c. search laws) (λ c κs. search laws) (λ c. search laws))

@@ -1,8 +1,13 @@
--- `eval::pair` meets its contract. Assumes nothing.
+-- `eval::pair` meets its contract: the pair as `from_pair` reads it. Assumes nothing.
 use borrow.Author.Needs.{needs}
 use Rattle.eval.proofs.Laws.{pairs}
 use Rattle.eval.proofs.pair.Statement.{statement}
 use Rattle.eval.proofs.pair.Tie as tie
 
+ruleset laws = (pairs, needs)
+
 pub pair-spec : {M : Type 1} → statement M
-pair-spec = tie.close (tie.spec (λ c κs. search (pairs, needs)) (λ c. search (pairs, needs)) (λ c. search (pairs, needs)) (λ c. search (pairs, needs)) (λ c. search (pairs, needs)))
+pair-spec =
+    tie.close
+    (tie.spec
+    (λ c κs. search laws) (λ c. search laws) (λ c. search laws) (λ c. search laws) (λ c. search laws))

@@ -1,8 +1,15 @@
--- `eval::truth_of` meets its contract. Assumes nothing.
+-- `eval::truth_of` meets its contract: each arm knows the kind of the value. Assumes nothing.
 use borrow.Author.Needs.{needs}
 use Rattle.eval.proofs.Laws.{truths}
 use Rattle.eval.proofs.truth_of.Statement.{statement}
 use Rattle.eval.proofs.truth_of.Tie as tie
 
+ruleset laws = (truths, needs)
+
 pub truth-of-spec : {M : Type 1} → statement M
-truth-of-spec = tie.close (tie.spec (λ c. search (truths, needs)) (λ c. search (truths, needs)) (λ c. search (truths, needs)) (λ c. search (truths, needs)) (λ c. search (truths, needs)) (λ c. search (truths, needs)) (λ c. search (truths, needs)) (λ c. search (truths, needs)) (λ c. search (truths, needs)) (λ c. search (truths, needs)) (λ c. search (truths, needs)))
+truth-of-spec =
+    tie.close
+    (tie.spec
+    (λ c. search laws) (λ c. search laws) (λ c. search laws) (λ c. search laws) (λ c. search laws)
+    (λ c. search laws) (λ c. search laws) (λ c. search laws) (λ c. search laws) (λ c. search laws)
+    (λ c. search laws))

@@ -1,8 +1,14 @@
--- `eval::unary` meets its contract. Assumes nothing.
+-- `eval::unary` meets its contract: a fault returns, and then the operator of the kind. Assumes nothing.
 use borrow.Author.Needs.{needs}
 use Rattle.eval.proofs.Laws.{operates}
 use Rattle.eval.proofs.unary.Statement.{statement}
 use Rattle.eval.proofs.unary.Tie as tie
 
+ruleset laws = (operates, needs)
+
 pub unary-spec : {M : Type 1} → statement M
-unary-spec = tie.close (tie.spec (λ c. search (operates, needs)) (λ c. search (operates, needs)) (λ c. search (operates, needs)) (λ c κs. search (operates, needs)) (λ c. search (operates, needs)) (λ c κs. search (operates, needs)) (λ c. search (operates, needs)))
+unary-spec =
+    tie.close
+    (tie.spec
+    (λ c. search laws) (λ c. search laws) (λ c. search laws) (λ c κs. search laws) (λ c. search laws)
+    (λ c κs. search laws) (λ c. search laws))
