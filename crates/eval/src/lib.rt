@@ -22,15 +22,15 @@ use value::ops::Answer;
 use value::value::Lent;
 use value::value::Value;
 
-// An answer as a test: a Bool, or the number of a fault.
-pub enum Truth {
+// What a test came to: a Bool, or the number of a fault.
+enum Truth {
     Yes,
     No,
     Wrong(u8),
 }
 
 // What is to be done at a node with children.
-pub enum Rule {
+enum Rule {
     Unary,
     Operator,
     And,
@@ -39,11 +39,12 @@ pub enum Rule {
 }
 
 // What follows on the first child's answer: nothing more is evaluated, or a second child.
-pub enum Next {
+enum Next {
     Stop,
     Go(usize),
 }
 
+// A lent pair; an ill-formed one, which `evaluate` has refused before, is 29.
 fn pair(kind: u8, payload: u64) -> Answer
     ensures { λ r. ⌜ resultOf r ≡ pairOf (Vs.ofPair kind payload) ⌝ }
 {
@@ -54,6 +55,7 @@ fn pair(kind: u8, payload: u64) -> Answer
     }
 }
 
+// The value of local p.
 fn local(p: u64, kinds: &[u8], payloads: &[u64]) -> Answer
     requires { ⌜ p < length (now kinds) ⌝ }
     requires { ⌜ Lends (now kinds) (now payloads) ⌝ }
@@ -70,11 +72,11 @@ fn leaf(k: u64, p: u64, kinds: &[u8], payloads: &[u64]) -> Answer
     ensures { λ r. ⌜ resultOf r ≡ getD (leaves (datums (now (kinds .entry)) (now (payloads .entry))) p) k (Ops.fault 0) ⌝ }
 {
     match k {
-        0 => Answer::Is(Value::Nil),
-        1 => Answer::Is(Value::Bool(true)),
-        2 => Answer::Is(Value::Bool(false)),
-        3 => Answer::Is(Value::Int(int64::signed(p))),
-        4 => Answer::Is(value::value::of_pattern(p)),
+        table::NIL => Answer::Is(Value::Nil),
+        table::TRUE => Answer::Is(Value::Bool(true)),
+        table::FALSE => Answer::Is(Value::Bool(false)),
+        table::INT => Answer::Is(Value::Int(int64::signed(p))),
+        table::FLOAT => Answer::Is(value::value::of_pattern(p)),
         _ => local(p, kinds, payloads),
     }
 }
@@ -105,6 +107,7 @@ fn operate(k: u64, a: Answer, b: Answer) -> Answer
     value::binary::binary(k, x, y)
 }
 
+// A value as a test: only a Bool is one.
 fn truth_of(v: Value) -> Truth
     ensures { λ r. ⌜ r ≡ truthOf (Ops.is (Vs.meaning v)) ⌝ }
 {
@@ -117,6 +120,7 @@ fn truth_of(v: Value) -> Truth
     }
 }
 
+// An answer as a test.
 fn test_of(a: Answer) -> Truth
     ensures { λ r. ⌜ r ≡ truthOf (resultOf a) ⌝ }
 {
@@ -138,6 +142,7 @@ fn tested(a: Answer) -> Answer
     }
 }
 
+// The rule of a kind from MINUS up.
 fn rule_of(k: u64) -> Rule
     ensures { λ r. ⌜ r ≡ ruleOf k ⌝ }
 {
