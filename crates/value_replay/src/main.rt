@@ -1,0 +1,57 @@
+// Replays operators on lent values, and writes what they answer; tools/oracle/README.md has the layout.
+use value::ops::Answer;
+use value::value::Lent;
+use value::value::Value;
+
+// The operator of a node kind on two values; the second is left alone by Minus and Not.
+fn apply(kind: u64, a: Value, b: Value) -> Answer {
+    if kind == 6 {
+        return value::ops::minus(a);
+    }
+    if kind == 7 {
+        return value::ops::not(a);
+    }
+    value::binary::binary(kind, a, b)
+}
+
+// The pair as a value. A kind that no byte holds is none: `byte_of` makes it 255.
+fn lent(kind: u64, payload: u64) -> Lent {
+    value::value::from_pair(wire::byte_of(kind), payload)
+}
+
+fn answer(kind: u64, x: Lent, y: Lent) -> Answer {
+    let Lent::Well(a) = x else { return Answer::Fault(faults::ILL_FORMED); };
+    let Lent::Well(b) = y else { return Answer::Fault(faults::ILL_FORMED); };
+    apply(kind, a, b)
+}
+
+fn write_answer(a: Answer) {
+    match a {
+        Answer::Is(v) => {
+            wire::write_word(0);
+            wire::write_word(value::value::kind_of(v) as u64);
+            wire::write_word(value::value::payload_of(v));
+        }
+        Answer::Fault(n) => {
+            wire::write_word(n as u64);
+            wire::write_word(0);
+            wire::write_word(0);
+        }
+    }
+}
+
+fn replay() {
+    let kind = wire::read_word();
+    let ka = wire::read_word();
+    let pa = wire::read_word();
+    let kb = wire::read_word();
+    let pb = wire::read_word();
+    write_answer(answer(kind, lent(ka, pa), lent(kb, pb)));
+}
+
+fn main() {
+    let n = wire::read_word();
+    for _ in 0..n {
+        replay();
+    }
+}
