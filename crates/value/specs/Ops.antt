@@ -3,8 +3,6 @@ use Prim.Native.Nat.{ℕ, _^_}
 use mathlib.Core.Bool.{Bool, true, false, not, _&&_, cond}
 use lib.Dec.{leb, eqb}
 use lib.IntN.{ℤ, pos, negsuc, natAbs}
-use mir.Syntax.{w64}
-use mir.Val.{toZ}
 use Rattle.faults.specs.Numbers.{wrongKind, notExact}
 use Rattle.float.specs.Binary64 as F
 use Rattle.float.specs.Binary64.{read}
@@ -22,8 +20,6 @@ use Rattle.float.specs.declared.Whole.{Whole}
 use Rattle.float.specs.declared.Whole.the-variants.{Is, Wide}
 use Rattle.value.specs.declared.ops.Answer.{Answer}
 use Rattle.value.specs.declared.ops.Answer.the-variants as A
-use Rattle.value.specs.declared.ops.Number.{Number}
-use Rattle.value.specs.declared.ops.Number.the-variants as N
 
 pub data Result : Type 0 where
   is : Datum → Result
@@ -34,30 +30,13 @@ abbrev pub resultOf : Answer → Result
 resultOf (A.Is v) = is (meaning v)
 resultOf (A.Fault n) = fault n
 
--- ---- numbers: anything else counts as Nil
+-- ---- numbers
 
 unfoldable pub isNumber : Datum → Bool
 isNumber nil = false
 isNumber (bool b) = false
 isNumber (int n) = true
 isNumber (float p) = true
-
-unfoldable pub asNumber : Datum → Datum
-asNumber nil = nil
-asNumber (bool b) = nil
-asNumber (int n) = int n
-asNumber (float p) = float p
-
--- what the code sees of a value, and whether it is a number
-unfoldable pub shown : Number → Datum
-shown (N.Int p) = int (toZ w64 p)
-shown (N.Float p) = float p
-shown N.Other = nil
-
-abbrev pub counts : Number → Bool
-counts (N.Int p) = true
-counts (N.Float p) = true
-counts N.Other = false
 
 -- r, where both are numbers: 20 comes first
 unfoldable pub ofNumbers : Datum → Datum → Result → Result

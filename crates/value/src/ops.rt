@@ -3,7 +3,8 @@ ghost use mathlib.Core.Path.{_≡_};
 ghost use mathlib.Core.Bool.{_&&_};
 ghost use Rattle.value.specs.Value.{meaning, float};
 ghost use Rattle.value.specs.Ops as Ops;
-ghost use Rattle.value.specs.Ops.{resultOf, shown};
+ghost use Rattle.value.specs.Ops.{resultOf};
+ghost use Rattle.value.specs.Seen.{asNumber, shown, counts};
 ghost use mir.Syntax.{w64};
 ghost use mir.Val.{toZ};
 ghost use Rattle.int64.specs.Int.{outcomeOf};
@@ -27,7 +28,7 @@ pub enum Number {
 }
 
 pub fn number_of(v: Value) -> Number
-    ensures { λ r. ⌜ shown r ≡ Ops.asNumber (meaning v) ⌝ }
+    ensures { λ r. ⌜ shown r ≡ asNumber (meaning v) ⌝ }
 {
     match v {
         Value::Int(n) => Number::Int(int64::pattern(n)),
@@ -39,7 +40,7 @@ pub fn number_of(v: Value) -> Number
 }
 
 fn is_number(a: Number) -> bool
-    ensures { λ r. ⌜ r ≡ Ops.counts a ⌝ }
+    ensures { λ r. ⌜ r ≡ counts a ⌝ }
 {
     match a {
         Number::Int(_) => true,
@@ -49,7 +50,7 @@ fn is_number(a: Number) -> bool
 }
 
 fn both_numbers(a: Number, b: Number) -> bool
-    ensures { λ r. ⌜ r ≡ (Ops.counts a && Ops.counts b) ⌝ }
+    ensures { λ r. ⌜ r ≡ (counts a && counts b) ⌝ }
 {
     is_number(a) && is_number(b)
 }
