@@ -26,7 +26,7 @@ use Rattle.float.specs.declared.Op.the-variants as FO
 use Rattle.float.specs.declared.Whole.{Whole}
 use Rattle.float.specs.declared.Whole.the-variants.{Is, Wide}
 use Rattle.value.specs.Value.{Datum, nil, bool, int, float}
-use Rattle.value.specs.Ops.{Result, is, fault, isNumber, ofNumbers, fromInt, converted, floats, asFloats, arithNumbers, arithOf, minusOf, divOf, wholeOf, Standing, stands, apart, standing, judged, mixed, mirror, compareNumbers, compareOthers, compareOf, same, notOf, negate, binaryOf}
+use Rattle.value.specs.Ops.{Result, is, fault, isNumber, ofNumbers, fromInt, converted, floats, asFloats, arithOf, minusOf, wholeOf, Standing, stands, apart, standing, judged, mixed, mirror, compareNumbers, compareOthers, compareOf, same, notOf, negate, binaryOf}
 use Rattle.value.proofs.RoundTrip.{Holds}
 
 abbrev pub Back : Result → Type 0
@@ -184,30 +184,18 @@ made op (Is p) Wide = record { back = tt }
 made op Wide y = record { back = tt }
 
 pub as-floats : (op : FloatOp.Op) (x y : Datum) → Held (asFloats op x y)
-unfolding asFloats
-as-floats op x y = made op (converted x) (converted y)
-
-numbers : (x y : Datum) {r : Result} → Held r → Held (ofNumbers x y r)
-unfolding ofNumbers
-numbers x y h = picks (isNumber x && isNumber y) h (record { back = tt })
-
-arith-held : (i : IntOp.Op) (f : FloatOp.Op) (x y : Datum) → Holds x → Holds y → Held (arithNumbers i f x y)
-unfolding arithNumbers
-arith-held i f nil y s t = as-floats f nil y
-arith-held i f (bool b) y s t = as-floats f (bool b) y
-arith-held i f (int a) nil s t = as-floats f (int a) nil
-arith-held i f (int a) (bool b) s t = as-floats f (int a) (bool b)
-arith-held i f (int a) (int b) s t = ints i a b s t
-arith-held i f (int a) (float q) s t = as-floats f (int a) (float q)
-arith-held i f (float p) y s t = as-floats f (float p) y
+unfolding asFloats ofNumbers
+as-floats op x y = picks (isNumber x && isNumber y) (made op (converted x) (converted y)) (record { back = tt })
 
 pub ariths : (i : IntOp.Op) (f : FloatOp.Op) (x y : Datum) → Holds x → Holds y → Held (arithOf i f x y)
 unfolding arithOf
-ariths i f x y s t = numbers x y (arith-held i f x y s t)
-
-pub divs-held : (x y : Datum) → Held (divOf x y)
-unfolding divOf
-divs-held x y = numbers x y (as-floats FO.Div x y)
+ariths i f nil y s t = as-floats f nil y
+ariths i f (bool b) y s t = as-floats f (bool b) y
+ariths i f (int a) nil s t = as-floats f (int a) nil
+ariths i f (int a) (bool b) s t = as-floats f (int a) (bool b)
+ariths i f (int a) (int b) s t = ints i a b s t
+ariths i f (int a) (float q) s t = as-floats f (int a) (float q)
+ariths i f (float p) y s t = as-floats f (float p) y
 
 pub wholes : (op : IntOp.Op) (x y : Datum) → Holds x → Holds y → Held (wholeOf op x y)
 unfolding wholeOf
@@ -275,7 +263,7 @@ binaries k x y s t =
     (picks (eqb k 13) (ariths IO.Add FO.Add x y s t)
     (picks (eqb k 14) (ariths IO.Sub FO.Sub x y s t)
     (picks (eqb k 15) (ariths IO.Mul FO.Mul x y s t)
-    (picks (eqb k 16) (divs-held x y)
+    (picks (eqb k 16) (as-floats FO.Div x y)
     (picks (eqb k 17) (wholes IO.Rem x y s t)
     (picks (eqb k 18) (compares Eq x y)
     (picks (eqb k 19) (compares Ne x y)

@@ -21,7 +21,7 @@ use Rattle.float.specs.Binary64.{read}
 use Rattle.float.specs.declared.Op as FloatOp
 use Rattle.float.specs.declared.Op.the-variants as FO
 use Rattle.value.specs.Value.{int, float, payloadOf}
-use Rattle.value.specs.Ops.{Result, is, fault, truth, isNumber, ofNumbers, fromInt, converted, floats, asFloats, arithNumbers, arithOf, wholeOf, compareNumbers, compareOf, binaryOf}
+use Rattle.value.specs.Ops.{Result, is, fault, truth, isNumber, ofNumbers, fromInt, converted, floats, asFloats, arithOf, wholeOf, compareNumbers, compareOf, binaryOf}
 
 -- ---- Add, Sub, Mul, by the node kind
 
@@ -54,7 +54,7 @@ picked false z = refl
 
 -- two Ints: the exact Int or 21
 pub int-arith : (op : Arith) (a b : ℤ) → binaryOf (kindOf op) (int a) (int b) ≡ cond (I.inRange (I.arith op a b)) (is (int (I.arith op a b))) (fault overflow)
-unfolding arithOf ofNumbers isNumber arithNumbers I.operate I.exact
+unfolding arithOf I.operate I.exact
 int-arith B.Add a b = picked (I.inRange (I.arith B.Add a b)) (I.arith B.Add a b)
 int-arith B.Sub a b = picked (I.inRange (I.arith B.Sub a b)) (I.arith B.Sub a b)
 int-arith B.Mul a b = picked (I.inRange (I.arith B.Mul a b)) (I.arith B.Mul a b)
@@ -70,7 +70,7 @@ module _ (op : Arith) (p q : ℕ) {t : Bool} (e : t ≡ I.inRange (I.arith op (t
 
 -- two Floats
 pub float-arith : (op : Arith) (p q : ℕ) → binaryOf (kindOf op) (float p) (float q) ≡ is (float (F.operate (floatOp op) (read p) (read q)))
-unfolding arithOf ofNumbers isNumber arithNumbers asFloats converted floats
+unfolding arithOf asFloats ofNumbers isNumber converted floats
 float-arith B.Add p q = refl
 float-arith B.Sub p q = refl
 float-arith B.Mul p q = refl

@@ -18,6 +18,8 @@ use Rattle.float.specs.declared.Op as FloatOp
 use Rattle.float.specs.declared.Op.the-variants as FO
 use Rattle.float.specs.declared.Whole.{Whole}
 use Rattle.float.specs.declared.Whole.the-variants.{Is, Wide}
+use Rattle.value.specs.declared.ops.How.{How}
+use Rattle.value.specs.declared.ops.How.the-variants as H
 use Rattle.value.specs.declared.ops.Answer.{Answer}
 use Rattle.value.specs.declared.ops.Answer.the-variants as A
 
@@ -62,19 +64,16 @@ floats op (Is p) Wide = fault notExact
 floats op Wide y = fault notExact
 
 unfoldable pub asFloats : FloatOp.Op → Datum → Datum → Result
-asFloats op x y = floats op (converted x) (converted y)
-
-unfoldable pub arithNumbers : IntOp.Op → FloatOp.Op → Datum → Datum → Result
-arithNumbers i f nil y = asFloats f nil y
-arithNumbers i f (bool b) y = asFloats f (bool b) y
-arithNumbers i f (int a) nil = asFloats f (int a) nil
-arithNumbers i f (int a) (bool b) = asFloats f (int a) (bool b)
-arithNumbers i f (int a) (int b) = fromInt (I.operate i a b)
-arithNumbers i f (int a) (float q) = asFloats f (int a) (float q)
-arithNumbers i f (float p) y = asFloats f (float p) y
+asFloats op x y = ofNumbers x y (floats op (converted x) (converted y))
 
 unfoldable pub arithOf : IntOp.Op → FloatOp.Op → Datum → Datum → Result
-arithOf i f x y = ofNumbers x y (arithNumbers i f x y)
+arithOf i f nil y = asFloats f nil y
+arithOf i f (bool b) y = asFloats f (bool b) y
+arithOf i f (int a) nil = asFloats f (int a) nil
+arithOf i f (int a) (bool b) = asFloats f (int a) (bool b)
+arithOf i f (int a) (int b) = fromInt (I.operate i a b)
+arithOf i f (int a) (float q) = asFloats f (int a) (float q)
+arithOf i f (float p) y = asFloats f (float p) y
 
 -- ---- Minus: Mul by Int -1
 
@@ -83,8 +82,8 @@ minusOf x = arithOf IO.Mul FO.Mul x (int (negsuc 0))
 
 -- ---- Div: both as Floats
 
-unfoldable pub divOf : Datum → Datum → Result
-divOf x y = ofNumbers x y (asFloats FO.Div x y)
+abbrev pub divOf : Datum → Datum → Result
+divOf x y = asFloats FO.Div x y
 
 -- ---- Mod, the bit operators, the shifts: Ints only
 
@@ -96,6 +95,13 @@ wholeOf op (int a) (bool b) = fault wrongKind
 wholeOf op (int a) (int b) = fromInt (I.operate op a b)
 wholeOf op (int a) (float q) = fault wrongKind
 wholeOf op (float p) y = fault wrongKind
+
+-- ---- the three together, as the code asks for them
+
+unfoldable pub operateOf : How → Datum → Datum → Result
+operateOf (H.Arith i f) x y = arithOf i f x y
+operateOf (H.Floats f) x y = asFloats f x y
+operateOf (H.Whole i) x y = wholeOf i x y
 
 -- ---- order: numbers only
 
@@ -143,7 +149,7 @@ compareNumbers c (float p) (float q) = truth (holds c (F.order (read p) (read q)
 
 -- one kind and one payload
 unfoldable pub same : Datum → Datum → Bool
-same x y = cond (eqb (kindOf x) (kindOf y)) (eqb (payloadOf x) (payloadOf y)) false
+same x y = eqb (kindOf x) (kindOf y) && eqb (payloadOf x) (payloadOf y)
 
 unfoldable pub compareOthers : Cmp → Bool → Result
 compareOthers Eq s = truth s

@@ -3,6 +3,8 @@ use mathlib.Core.Bool.{Bool, true, false}
 use mir.Syntax.{w64}
 use mir.Val.{toZ}
 use Rattle.value.specs.Value.{Datum, nil, bool, int, float}
+use Rattle.value.specs.declared.ops.Ints.{Ints}
+use Rattle.value.specs.declared.ops.Ints.the-variants.{Are, Not}
 use Rattle.value.specs.declared.ops.Number.{Number}
 use Rattle.value.specs.declared.ops.Number.the-variants as N
 
@@ -22,3 +24,10 @@ abbrev pub counts : Number → Bool
 counts (N.Int p) = true
 counts (N.Float p) = true
 counts N.Other = false
+
+abbrev pub intsOf : Number → Number → Ints
+intsOf (N.Int p) (N.Int q) = Are p q
+intsOf (N.Int p) (N.Float q) = Not
+intsOf (N.Int p) N.Other = Not
+intsOf (N.Float p) b = Not
+intsOf N.Other b = Not

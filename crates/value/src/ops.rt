@@ -4,7 +4,7 @@ ghost use mathlib.Core.Bool.{_&&_};
 ghost use Rattle.value.specs.Value.{meaning, float};
 ghost use Rattle.value.specs.Ops as Ops;
 ghost use Rattle.value.specs.Ops.{resultOf};
-ghost use Rattle.value.specs.Seen.{asNumber, shown, counts};
+ghost use Rattle.value.specs.Seen.{asNumber, shown, counts, intsOf};
 ghost use mir.Syntax.{w64};
 ghost use mir.Val.{toZ};
 ghost use Rattle.int64.specs.Int.{outcomeOf};
@@ -25,6 +25,19 @@ pub enum Number {
     Int(u64),
     Float(u64),
     Other,
+}
+
+// Two Ints by their patterns, or not two Ints.
+pub enum Ints {
+    Are(u64, u64),
+    Not,
+}
+
+// How an operator goes about it: Add, Sub, Mul on two Ints or as Floats; Div as Floats; the rest on Ints alone.
+pub enum How {
+    Arith(int64::Op, float::Op),
+    Floats(float::Op),
+    Whole(int64::Op),
 }
 
 pub fn number_of(v: Value) -> Number
@@ -103,72 +116,59 @@ fn floats(op: float::Op, x: Whole, y: Whole) -> Answer
 fn as_floats(op: float::Op, a: Number, b: Number) -> Answer
     ensures { λ r. ⌜ resultOf r ≡ Ops.asFloats op (shown a) (shown b) ⌝ }
 {
-    floats(op, float_of(a), float_of(b))
+    if both_numbers(a, b) {
+        return floats(op, float_of(a), float_of(b));
+    }
+    Answer::Fault(faults::WRONG_KIND)
 }
 
-fn arith_numbers(i: int64::Op, f: float::Op, a: Number, b: Number) -> Answer
-    ensures { λ r. ⌜ resultOf r ≡ Ops.arithNumbers i f (shown a) (shown b) ⌝ }
+fn ints_of(a: Number, b: Number) -> Ints
+    ensures { λ r. ⌜ r ≡ intsOf a b ⌝ }
 {
     match a {
         Number::Int(p) => match b {
-            Number::Int(q) => int_answer(int64::operate(i, p, q)),
-            Number::Float(_) => as_floats(f, a, b),
-            Number::Other => as_floats(f, a, b),
+            Number::Int(q) => Ints::Are(p, q),
+            Number::Float(_) => Ints::Not,
+            Number::Other => Ints::Not,
         },
-        Number::Float(_) => as_floats(f, a, b),
-        Number::Other => as_floats(f, a, b),
+        Number::Float(_) => Ints::Not,
+        Number::Other => Ints::Not,
     }
 }
 
-// Add, Sub, Mul: i for two Ints, f with a Float.
-pub fn arith(i: int64::Op, f: float::Op, a: Value, b: Value) -> Answer
-    ensures { λ r. ⌜ resultOf r ≡ Ops.arithOf i f (meaning a) (meaning b) ⌝ }
+fn operate_numbers(how: How, a: Number, b: Number) -> Answer
+    ensures { λ r. ⌜ resultOf r ≡ Ops.operateOf how (shown a) (shown b) ⌝ }
 {
-    let x = number_of(a);
-    let y = number_of(b);
-    if both_numbers(x, y) {
-        return arith_numbers(i, f, x, y);
+    let w = ints_of(a, b);
+    match how {
+        How::Arith(i, f) => match w {
+            Ints::Are(p, q) => int_answer(int64::operate(i, p, q)),
+            Ints::Not => as_floats(f, a, b),
+        },
+        How::Floats(f) => as_floats(f, a, b),
+        How::Whole(i) => match w {
+            Ints::Are(p, q) => int_answer(int64::operate(i, p, q)),
+            Ints::Not => Answer::Fault(faults::WRONG_KIND),
+        },
     }
-    Answer::Fault(faults::WRONG_KIND)
+}
+
+// Every arithmetic and bit operator.
+pub fn operate(how: How, a: Value, b: Value) -> Answer
+    ensures { λ r. ⌜ resultOf r ≡ Ops.operateOf how (meaning a) (meaning b) ⌝ }
+{
+    operate_numbers(how, number_of(a), number_of(b))
 }
 
 // Mul by Int -1.
 pub fn minus(v: Value) -> Answer
     ensures { λ r. ⌜ resultOf r ≡ Ops.minusOf (meaning v) ⌝ }
 {
-    arith(int64::Op::Mul, float::Op::Mul, v, Value::Int(-1))
-}
-
-pub fn div(a: Value, b: Value) -> Answer
-    ensures { λ r. ⌜ resultOf r ≡ Ops.divOf (meaning a) (meaning b) ⌝ }
-{
-    let x = number_of(a);
-    let y = number_of(b);
-    if both_numbers(x, y) {
-        return as_floats(float::Op::Div, x, y);
-    }
-    Answer::Fault(faults::WRONG_KIND)
-}
-
-fn whole_numbers(op: int64::Op, a: Number, b: Number) -> Answer
-    ensures { λ r. ⌜ resultOf r ≡ Ops.wholeOf op (shown a) (shown b) ⌝ }
-{
-    match a {
-        Number::Int(p) => match b {
-            Number::Int(q) => int_answer(int64::operate(op, p, q)),
-            Number::Float(_) => Answer::Fault(faults::WRONG_KIND),
-            Number::Other => Answer::Fault(faults::WRONG_KIND),
-        },
-        Number::Float(_) => Answer::Fault(faults::WRONG_KIND),
-        Number::Other => Answer::Fault(faults::WRONG_KIND),
-    }
-}
-
-// Mod, the bit operators and the shifts: Ints only.
-pub fn whole(op: int64::Op, a: Value, b: Value) -> Answer
-    ensures { λ r. ⌜ resultOf r ≡ Ops.wholeOf op (meaning a) (meaning b) ⌝ }
-{
-    whole_numbers(op, number_of(a), number_of(b))
+    operate(
+        How::Arith(int64::Op::Mul, float::Op::Mul),
+        v,
+        Value::Int(-1),
+    )
 }
 
 // The comparison with its operands exchanged.
@@ -218,10 +218,7 @@ fn compare_numbers(op: Cmp, a: Number, b: Number) -> Answer
 fn same(a: Value, b: Value) -> bool
     ensures { λ r. ⌜ r ≡ Ops.same (meaning a) (meaning b) ⌝ }
 {
-    if value::kind_of(a) == value::kind_of(b) {
-        return value::payload_of(a) == value::payload_of(b);
-    }
-    false
+    value::kind_of(a) == value::kind_of(b) && value::payload_of(a) == value::payload_of(b)
 }
 
 // Two values of which one is no number: they are equal or not, and have no order.

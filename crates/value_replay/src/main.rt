@@ -20,8 +20,12 @@ fn lent(kind: u64, payload: u64) -> Lent {
 }
 
 fn answer(kind: u64, x: Lent, y: Lent) -> Answer {
-    let Lent::Well(a) = x else { return Answer::Fault(faults::ILL_FORMED); };
-    let Lent::Well(b) = y else { return Answer::Fault(faults::ILL_FORMED); };
+    let Lent::Well(a) = x else {
+        return Answer::Fault(faults::ILL_FORMED);
+    };
+    let Lent::Well(b) = y else {
+        return Answer::Fault(faults::ILL_FORMED);
+    };
     apply(kind, a, b)
 }
 

@@ -1,8 +1,8 @@
--- `ops::whole_numbers` meets its contract: by the kinds of the two numbers. Assumes nothing.
+-- `ops::operate_numbers` meets its contract: by how the operator goes about it, and whether both are Ints. Assumes nothing.
 use Rattle.value.proofs.Answers.{answers}
 use borrow.Author.Needs.{needs}
-use Rattle.value.proofs.ops.whole_numbers.Statement.{statement}
-use Rattle.value.proofs.ops.whole_numbers.Tie as tie
+use Rattle.value.proofs.ops.operate_numbers.Statement.{statement}
+use Rattle.value.proofs.ops.operate_numbers.Tie as tie
 
 returns : tie.Need-returns
 returns c = search (answers, needs)
@@ -19,17 +19,23 @@ returns-4 c = search (answers, needs)
 returns-5 : tie.Need-returns-5
 returns-5 c = search (answers, needs)
 
-pub whole-numbers-spec : {M : Type 1} → statement M
-whole-numbers-spec =
+pub operate-numbers-spec : {M : Type 1} → statement M
+operate-numbers-spec =
     tie.close
     (tie.spec
+    (λ c κs. search needs)
     (λ c. search needs)
     (λ c. search needs)
     (λ c κs. search needs)
     (λ c κs. search needs)
     (λ c. search needs)
+    (λ c κs. search needs)
+    (λ c. search needs)
+    (λ c κs. search needs)
     (λ c. search needs)
     (λ c. search needs)
+    (λ c κs. search needs)
+    (λ c κs. search needs)
     (λ c. search needs)
     returns
     returns-2
