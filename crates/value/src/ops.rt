@@ -1,6 +1,7 @@
 // The operators on values, each with its faults in the order 20, 23, then 22 or 24, then 21.
 ghost use mathlib.Core.Path.{_≡_};
 ghost use mathlib.Core.Bool.{_&&_};
+ghost use lib.Dec.{eqb};
 ghost use Rattle.value.specs.Value.{meaning, float};
 ghost use Rattle.value.specs.Ops as Ops;
 ghost use Rattle.value.specs.Ops.{resultOf};
@@ -60,6 +61,12 @@ fn is_number(a: Number) -> bool
         Number::Float(_) => true,
         Number::Other => false,
     }
+}
+
+fn both(s: bool, t: bool) -> bool
+    ensures { λ r. ⌜ r ≡ (s && t) ⌝ }
+{
+    s && t
 }
 
 fn both_numbers(a: Number, b: Number) -> bool
@@ -164,11 +171,8 @@ pub fn operate(how: How, a: Value, b: Value) -> Answer
 pub fn minus(v: Value) -> Answer
     ensures { λ r. ⌜ resultOf r ≡ Ops.minusOf (meaning v) ⌝ }
 {
-    operate(
-        How::Arith(int64::Op::Mul, float::Op::Mul),
-        v,
-        Value::Int(-1),
-    )
+    let minus_one = Value::Int(-1);
+    operate(How::Arith(int64::Op::Mul, float::Op::Mul), v, minus_one)
 }
 
 // The comparison with its operands exchanged.
@@ -214,11 +218,11 @@ fn compare_numbers(op: Cmp, a: Number, b: Number) -> Answer
     }
 }
 
-// Whether two values that are not both numbers are one.
-fn same(a: Value, b: Value) -> bool
-    ensures { λ r. ⌜ r ≡ Ops.same (meaning a) (meaning b) ⌝ }
+// Whether two values that are not both numbers are one, by their kinds and payloads.
+fn same(k: u8, p: u64, l: u8, q: u64) -> bool
+    ensures { λ r. ⌜ r ≡ (eqb k l && eqb p q) ⌝ }
 {
-    value::kind_of(a) == value::kind_of(b) && value::payload_of(a) == value::payload_of(b)
+    both(k == l, p == q)
 }
 
 // Two values of which one is no number: they are equal or not, and have no order.
@@ -243,7 +247,13 @@ pub fn compare(op: Cmp, a: Value, b: Value) -> Answer
     if both_numbers(x, y) {
         return compare_numbers(op, x, y);
     }
-    compare_others(op, same(a, b))
+    let s = same(
+        value::kind_of(a),
+        value::payload_of(a),
+        value::kind_of(b),
+        value::payload_of(b),
+    );
+    compare_others(op, s)
 }
 
 pub fn not(v: Value) -> Answer
