@@ -1,0 +1,111 @@
+-- Lent lists of pairs do as the values that they lend do: `lent-run`. Assumes nothing.
+use mathlib.Core.Path.{_≡_, refl, sym, ap, subst, _∙_, fun-ext}
+use mathlib.Core.Bool.{Bool, true, false, cond}
+use mathlib.Core.List.{List}
+use Prim.Native.Nat.{ℕ, zero, suc, _≤_, _<_, _^_, min}
+use native.Mathlib.Omega.{arith}
+use lib.Dec.{ltb, eqb}
+use lib.IntN.{ℤ}
+use lib.ListN.{length, getD, set, length-set}
+use lib.Seq.{getD-set-same, getD-set-other}
+use borrow.Author.Tests.{lt-ltb, le-ltb, ltb-true, ltb-false, eqb-true, eqb-false}
+use Rattle.decode.specs.Decode.{decodeOf}
+use Rattle.value.specs.Value.{Datum, nil, kindOf, payloadOf, well, ofPair}
+use Rattle.value.specs.Ops.{Result, is, fault}
+use Rattle.value.proofs.RoundTrip.{Holds, pair-back}
+use Rattle.machine.specs.Effect.{Effect, size, held, ofRead}
+use Rattle.machine.specs.Step.{Next, go, put, stop, settleOf, decodedOf, wordOf, After, after, lent, stepOf}
+use Rattle.machine.specs.Run.{Out, out, ran, runFrom}
+use Rattle.machine.specs.Datums.{valueAt, nextOf, End, end, valuesFrom}
+use Rattle.machine.specs.declared.step.Stepped.{Stepped}
+use Rattle.value.proofs.Closed.{Held}
+use Rattle.machine.proofs.Written.{Put, fine-word, settled}
+
+-- two lists lend these values, and each has a lent form that reads back as itself
+pub record Lends (ks ps : List ℕ) (rs : List Datum) : Type 0 where
+  pub count : size ks ps ≡ length rs
+  pub reads : (r : ℕ) → held ks ps r ≡ valueAt rs r
+  pub fine : (r : ℕ) → Held (valueAt rs r)
+
+-- ---- a value written
+
+module _ {ks ps : List ℕ} {rs : List Datum} (l : Lends ks ps rs) (d : ℕ) (v : Datum) (here : d < length rs) (h : Holds v) where
+  in-kinds : d < length ks
+  in-kinds = omega (arith, l .count)
+
+  in-payloads : d < length ps
+  in-payloads = omega (arith, l .count)
+
+  room : size (set ks d (kindOf v)) (set ps d (payloadOf v)) ≡ size ks ps
+  room = rw (length-set, length-set)
+
+  same-read : held (set ks d (kindOf v)) (set ps d (payloadOf v)) d ≡ is v
+  unfolding held
+  same-read =
+      let k : d < size ks ps = omega (arith, l .count) in
+      let a = in-kinds in
+      let b = in-payloads in
+      rw (room, lt-ltb d (size ks ps) k, getD-set-same, getD-set-same, pair-back v h)
+
+  same-value : valueAt (set rs d v) d ≡ is v
+  unfolding valueAt
+  same-value = rw (length-set, lt-ltb d (length rs) here, getD-set-same)
+
+  other-read : (r : ℕ) → (r ≡ d → ⊥) → held (set ks d (kindOf v)) (set ps d (payloadOf v)) r ≡ held ks ps r
+  unfolding held
+  other-read r n = rw (room, getD-set-other, getD-set-other)
+
+  other-value : (r : ℕ) → (r ≡ d → ⊥) → valueAt (set rs d v) r ≡ valueAt rs r
+  unfolding valueAt
+  other-value r n = rw (length-set, getD-set-other)
+
+  pub lends-set : Lends (set ks d (kindOf v)) (set ps d (payloadOf v)) (set rs d v)
+  lends-set = record { count = room ∙ l .count ∙ sym (length-set rs d v); reads = λ r. reads′ r (eqb r d) refl; fine = λ r. fine′ r (eqb r d) refl }
+    where
+      reads′ : (r : ℕ) (b : Bool) → eqb r d ≡ b → held (set ks d (kindOf v)) (set ps d (payloadOf v)) r ≡ valueAt (set rs d v) r
+      reads′ r true e = rw (eqb-true r d e) (same-read ∙ sym same-value)
+      reads′ r false e = other-read r (eqb-false r d e) ∙ l .reads r ∙ sym (other-value r (eqb-false r d e))
+
+      fine′ : (r : ℕ) (b : Bool) → eqb r d ≡ b → Held (valueAt (set rs d v) r)
+      fine′ r true e = rw (eqb-true r d e, same-value) (record { back = h })
+      fine′ r false e = rw (other-value r (eqb-false r d e)) (l .fine r)
+
+-- ---- a step
+
+module _ {ks ps sks sps : List ℕ} {rs ss : List Datum} (l : Lends ks ps rs) (m : Lends sks sps ss) where
+  pub same-step : (ws : List ℕ) (at : ℕ) → stepOf ws sks sps at ks ps ≡ lent ks ps (nextOf ws ss at rs)
+  unfolding stepOf wordOf nextOf
+  same-step ws at = rw (l .count, fun-ext (l .reads), fun-ext (m .reads))
+
+  pub same-put : (ws : List ℕ) (at : ℕ) → Put (length rs) (nextOf ws ss at rs)
+  unfolding nextOf
+  same-put ws at = settled (length ws) (length rs) at (decodedOf (valueAt rs) (valueAt ss) (decodeOf (getD ws at 0))) (fine-word (valueAt rs) (valueAt ss) (l .fine) (m .fine) (getD ws at 0))
+
+-- ---- a run: the same report, and the lists at the end lend the values at the end
+
+abbrev pub Match : Out → End → Type 0
+Match (out r ks ps) (end q rs) = (r ≡ q) × Lends ks ps rs
+
+pub record Same (o : Out) (e : End) : Type 0 where
+  pub same : Match o e
+
+either : (b : Bool) {x x′ : Out} {y y′ : End} → Same x y → Same x′ y′ → Same (cond b x x′) (cond b y y′)
+either true h k = h
+either false h k = k
+
+module _ (ws sks sps : List ℕ) (ss : List Datum) (n s at : ℕ) {ks ps : List ℕ} {rs : List Datum} (l : Lends ks ps rs)
+    (again : (p : ℕ) (ks ps : List ℕ) (rs : List Datum) → Lends ks ps rs → Same (runFrom ws sks sps n (suc s) p ks ps) (valuesFrom ws ss n (suc s) p rs)) where
+  turn : (x : Next) → Put (length rs) x → Same
+      (elim (lent ks ps x) [ after r ks' ps' ↦ elim r [ Stepped.Moved p ↦ runFrom ws sks sps n (suc s) p ks' ps' | Stepped.Stopped e ↦ out (ran e s at) ks' ps' ] ])
+      (elim x [ go p ↦ valuesFrom ws ss n (suc s) p rs | put p d v ↦ valuesFrom ws ss n (suc s) p (set rs d v) | stop e ↦ end (ran e s at) rs ])
+  turn (go p) h = again p ks ps rs l
+  turn (put p d v) h = again p (set ks d (kindOf v)) (set ps d (payloadOf v)) (set rs d v) (lends-set l d v (h .0) (h .1))
+  turn (stop e) h = record { same = (refl, l) }
+
+pub lent-run : (ws sks sps : List ℕ) (ss : List Datum) → Lends sks sps ss → (n s at : ℕ) {ks ps : List ℕ} {rs : List Datum} → Lends ks ps rs → Same (runFrom ws sks sps n s at ks ps) (valuesFrom ws ss n s at rs)
+unfolding runFrom valuesFrom
+lent-run ws sks sps ss m zero s at l = either (ltb at (length ws)) (record { same = (refl, l) }) (record { same = (refl, l) })
+lent-run ws sks sps ss m (suc n) s at {ks} {ps} {rs} l =
+    either (ltb at (length ws))
+    (rw (same-step l m ws at) (turn ws sks sps ss n s at l (λ p ks ps rs l′. lent-run ws sks sps ss m n (suc s) p l′) (nextOf ws ss at rs) (same-put l m ws at)))
+    (record { same = (refl, l) })

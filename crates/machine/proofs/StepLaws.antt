@@ -1,0 +1,181 @@
+-- What `step` has to show, over plain values: where a taken branch lands, and what a write leaves. Assumes nothing.
+use mathlib.Core.Path.{_≡_, refl, sym, subst, ap, _∙_}
+use mathlib.Core.Bool.{Bool, true, false, cond}
+use mathlib.Core.List.{List}
+use Prim.Native.Nat.{ℕ, suc, _+_, _-_, _≤_, _<_}
+use native.Mathlib.Omega.{arith}
+use native.Mathlib.Numerals.{add-one}
+use lib.Dec.{ltb, leb}
+use lib.IntN.{ℤ, pos, negsuc, _+ℤ_}
+use lib.ListN.{length, getD, set}
+use lib.Signed.{mag, ltZ}
+use mir.Syntax.{w32, w64}
+use mir.Val.{SFits, toZ, ofZ}
+use mir.Facts.{toZ-ofZ}
+use borrow.Author.Tests.{lt-ltb, le-ltb, le-leb, lt-leb, ltb-true}
+use Rattle.faults.specs.Numbers.{undecoded, outOfRange}
+use Rattle.machine.proofs.EffectLaws.{widens, widened}
+use Rattle.decode.specs.Decode.{decodeOf}
+use Rattle.decode.specs.declared.Decoded.{Decoded}
+use Rattle.insns.specs.declared.op.Disp.{Disp}
+use Rattle.insns.specs.declared.op.Op.{Op}
+use Rattle.value.specs.Value.{nil, bool, int, float, meaning, kindOf, payloadOf}
+use Rattle.value.specs.declared.value.Value.the-variants as C
+use Rattle.value.specs.Ops.{Result, is, fault, resultOf}
+use Rattle.value.specs.declared.value.Value.{Value}
+use Rattle.value.specs.declared.ops.Answer.{Answer}
+use Rattle.value.specs.declared.ops.Answer.the-variants as A
+use Rattle.machine.specs.Effect.{Effect, halt, asked, size, held, effectOf}
+use Rattle.machine.specs.declared.effect.Effect as E
+use Rattle.machine.specs.declared.effect.Effect.the-variants as Fx
+use Rattle.machine.specs.Step.{Next, go, put, stop, landAt, landOf, toldOf, putOf, branchOf, writeOf, settleOf, decodedOf, wordOf, After, after, lent, stepOf}
+use Rattle.machine.specs.declared.step.Stepped.{Stepped}
+
+-- ---- where a branch lands
+
+never : {A : Type 0} → true ≡ false → A
+never e = absurd (let z : _≡_ {A = ℕ} 0 1 = cc in omega arith)
+
+module _ (len at : ℕ) (h : at < len) where
+  land-back : (z : ℤ) {m : ℕ} → m ≡ mag z → ltZ z (pos 0) ≡ true → m ≤ at → Stepped.Moved (at - m) ≡ toldOf (landOf len at z)
+  unfolding landOf
+  land-back (pos n) e t l = absurd (let k : n < 0 = ltb-true n 0 t in omega arith)
+  land-back (negsuc n) e t l =
+      let k : suc n ≤ suc at = omega arith in
+      let g : suc at - suc n ≤ len = omega arith in
+      rw (le-ltb (suc at) (suc n) k, le-leb (suc at - suc n) len g) (ap Stepped.Moved (omega arith))
+
+  land-before : (z : ℤ) {m : ℕ} → m ≡ mag z → ltZ z (pos 0) ≡ true → at < m → Stepped.Stopped outOfRange ≡ toldOf (landOf len at z)
+  unfolding landOf
+  land-before (pos n) e t l = absurd (let k : n < 0 = ltb-true n 0 t in omega arith)
+  land-before (negsuc n) e t l = let k : suc at < suc n = omega arith in rw (lt-ltb (suc at) (suc n) k)
+
+  land-on : (z : ℤ) {m : ℕ} → m ≡ mag z → ltZ z (pos 0) ≡ false → m ≤ len - (at + 1) → Stepped.Moved (at + 1 + m) ≡ toldOf (landOf len at z)
+  unfolding landOf
+  land-on (pos n) {m} e t l =
+      let g : suc at + n ≤ len = omega arith in
+      rw (le-leb (suc at + n) len g) (ap Stepped.Moved (omega arith))
+  land-on (negsuc n) e t l = never t
+
+  land-past : (z : ℤ) {m : ℕ} → m ≡ mag z → ltZ z (pos 0) ≡ false → len - (at + 1) < m → Stepped.Stopped outOfRange ≡ toldOf (landOf len at z)
+  unfolding landOf
+  land-past (pos n) e t l = let g : len < suc at + n = omega arith in rw (lt-leb (suc at + n) len g)
+  land-past (negsuc n) e t l = never t
+
+-- the same where z, a displacement, is handed over as the bits of an i64
+pub widens32 : {z : ℤ} → SFits w32 z → SFits w64 (toZ w32 (ofZ w32 z))
+widens32 s = widens {w = w32} tt s
+
+abbrev wide : ℤ → ℤ
+wide z = toZ w64 (ofZ w64 (toZ w32 (ofZ w32 z)))
+
+module _ (len at : ℕ) (h : at < len) (z : ℤ) (s : SFits w32 z) {m : ℕ} (e : m ≡ mag (wide z)) where
+  told : {r : Stepped} → r ≡ toldOf (landOf len at (wide z)) → r ≡ toldOf (landOf len at z)
+  told {r} q = subst (λ (y : ℤ). r ≡ toldOf (landOf len at y)) (widened {w = w32} tt s) q
+
+  module _ (t : ltZ (wide z) (pos 0) ≡ true) where
+    pub lands-back : m ≤ at → Stepped.Moved (at - m) ≡ toldOf (landOf len at z)
+    lands-back l = told (land-back len at h (wide z) e t l)
+
+    pub lands-before : at < m → Stepped.Stopped outOfRange ≡ toldOf (landOf len at z)
+    lands-before l = told (land-before len at h (wide z) e t l)
+
+  module _ (t : ltZ (wide z) (pos 0) ≡ false) where
+    pub lands-on : m ≤ len - (at + 1) → Stepped.Moved (at + 1 + m) ≡ toldOf (landOf len at z)
+    lands-on l = told (land-on len at h (wide z) e t l)
+
+    pub lands-past : len - (at + 1) < m → Stepped.Stopped outOfRange ≡ toldOf (landOf len at z)
+    lands-past l = told (land-past len at h (wide z) e t l)
+
+-- ---- what a write leaves
+
+module _ (ks ps : List ℕ) (at d : ℕ) {n : ℕ} (e : n ≡ size ks ps) where
+  pub write-past : (r : Result) → n ≤ d → after (Stepped.Stopped outOfRange) ks ps ≡ lent ks ps (writeOf (size ks ps) at d r)
+  write-past r h = let l : size ks ps ≤ d = omega arith in rw (le-ltb d (size ks ps) l)
+
+  here : d < n → ltb d (size ks ps) ≡ true
+  here h = let l : d < size ks ps = omega arith in lt-ltb d (size ks ps) l
+
+  module _ (h : d < n) {a : Answer} where
+    pub write-value : {v : Value} {x y : ℕ} → a ≡ A.Is v → x ≡ kindOf (meaning v) → y ≡ payloadOf (meaning v) → after (Stepped.Moved (at + 1)) (set ks d x) (set ps d y) ≡ lent ks ps (writeOf (size ks ps) at d (resultOf a))
+    write-value f p q = rw (here h, f, p, q, add-one)
+
+    pub write-fault : {m : ℕ} → a ≡ A.Fault m → after (Stepped.Stopped m) ks ps ≡ lent ks ps (writeOf (size ks ps) at d (resultOf a))
+    write-fault f = rw (here h, f)
+
+-- ---- a branch by an answer
+
+module _ (len at : ℕ) (z : ℤ) {a : Answer} where
+  module _ {v : Value} {b : Bool} (e : a ≡ A.Is v) (f : v ≡ C.Bool b) where
+    pub branch-taken : {r : Stepped} → b ≡ true → r ≡ toldOf (landOf len at z) → r ≡ toldOf (branchOf len at z (resultOf a))
+    branch-taken t q = rw (e, f, t) q
+
+    pub branch-left : b ≡ false → Stepped.Moved (at + 1) ≡ toldOf (branchOf len at z (resultOf a))
+    branch-left t = rw (e, f, t, add-one)
+
+  pub branch-fault : {n : ℕ} → a ≡ A.Fault n → Stepped.Stopped n ≡ toldOf (branchOf len at z (resultOf a))
+  branch-fault e = rw e
+
+-- a branch writes nothing
+module _ (ks ps : List ℕ) where
+  lands : (len : ℕ) (z : ℤ) → lent ks ps (landAt len z) ≡ after (toldOf (landAt len z)) ks ps
+  lands len (negsuc n) = refl
+  lands len (pos n) = go′ (leb n len)
+    where
+      go′ : (b : Bool) → lent ks ps (cond b (go n) (stop outOfRange)) ≡ after (toldOf (cond b (go n) (stop outOfRange))) ks ps
+      go′ true = refl
+      go′ false = refl
+
+  keeps : (len at : ℕ) (z : ℤ) (r : Result) → lent ks ps (branchOf len at z r) ≡ after (toldOf (branchOf len at z r)) ks ps
+  unfolding landOf
+  keeps len at z (is nil) = refl
+  keeps len at z (is (bool true)) = lands len (pos (suc at) +ℤ z)
+  keeps len at z (is (bool false)) = refl
+  keeps len at z (is (int n)) = refl
+  keeps len at z (is (float p)) = refl
+  keeps len at z (fault n) = refl
+
+  -- ---- an effect carried out
+
+  module _ (len at : ℕ) {e : E.Effect} where
+    pub settle-write : {d : ℕ} {a : Answer} {x : After} → e ≡ Fx.Write d a → x ≡ lent ks ps (writeOf (size ks ps) at d (resultOf a)) → x ≡ lent ks ps (settleOf len (size ks ps) at (asked e))
+    settle-write f q = rw f q
+
+    pub settle-branch : {z : Disp} {a : Answer} {r : Stepped} → e ≡ Fx.Branch z a → r ≡ toldOf (branchOf len at (z .by) (resultOf a)) → after r ks ps ≡ lent ks ps (settleOf len (size ks ps) at (asked e))
+    settle-branch {z} {a} f q = rw (f, keeps len at (z .by) (resultOf a)) (ap (λ (y : Stepped). after y ks ps) q)
+
+    pub settle-next : e ≡ Fx.Next → after (Stepped.Moved (at + 1)) ks ps ≡ lent ks ps (settleOf len (size ks ps) at (asked e))
+    settle-next f = rw (f, add-one)
+
+    pub settle-halt : {n : ℕ} → e ≡ Fx.Halt n → after (Stepped.Stopped n) ks ps ≡ lent ks ps (settleOf len (size ks ps) at (asked e))
+    settle-halt f = rw f
+
+  -- ---- a word, and the step at a position
+
+  module _ (sks sps : List ℕ) where
+    pub word-bad : (w : ℕ) {d : Decoded} → d ≡ decodeOf w → d ≡ Decoded.Bad → halt undecoded ≡ wordOf ks ps sks sps w
+    unfolding wordOf
+    word-bad w e f = ap (decodedOf (held ks ps) (held sks sps)) (sym f ∙ e)
+
+    pub word-is : (w : ℕ) {d : Decoded} {i : Op} {x : Effect} → d ≡ decodeOf w → d ≡ Decoded.Is i → x ≡ effectOf (held ks ps) (held sks sps) i → x ≡ wordOf ks ps sks sps w
+    unfolding wordOf
+    word-is w e f q = q ∙ ap (decodedOf (held ks ps) (held sks sps)) (sym f ∙ e)
+
+    pub step-is : (ws : List ℕ) (at : ℕ) {x : After} {f : Effect} → f ≡ wordOf ks ps sks sps (getD ws at 0) → x ≡ lent ks ps (settleOf (length ws) (size ks ps) at f) → x ≡ stepOf ws sks sps at ks ps
+    unfolding stepOf
+    step-is ws at e q = rw e at q
+
+-- ---- a stopping step writes nothing
+
+pub stop-keeps : (ws sks sps ks ps : List ℕ) (at n : ℕ) {ks′ ps′ : List ℕ} → stepOf ws sks sps at ks ps ≡ after (Stepped.Stopped n) ks′ ps′ → (ks′ ≡ ks) × (ps′ ≡ ps)
+unfolding stepOf
+stop-keeps ws sks sps ks ps at n {ks′} {ps′} e = by (settleOf (length ws) (size ks ps) at (wordOf ks ps sks sps (getD ws at 0))) e
+  where
+    by : (x : Next) → lent ks ps x ≡ after (Stepped.Stopped n) ks′ ps′ → (ks′ ≡ ks) × (ps′ ≡ ps)
+    by (go p) e = (cc, cc)
+    by (put p d v) e = (cc, cc)
+    by (stop m) e = (cc, cc)
+
+pub ruleset steps = (lands-back, lands-before, lands-on, lands-past, write-past, write-value, write-fault, widens32, branch-taken, branch-left, branch-fault)
+
+pub ruleset settles = (settle-write, settle-branch, settle-next, settle-halt, word-bad, word-is)

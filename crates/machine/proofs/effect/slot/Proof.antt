@@ -1,0 +1,18 @@
+-- `effect::slot` meets its contract: by the opcode. Assumes nothing.
+use borrow.Author.Needs.{needs}
+use Rattle.machine.proofs.effect.slot.Statement.{statement}
+use Rattle.machine.proofs.effect.slot.Tie as tie
+
+pub slot-spec : {M : Type 1} → statement M
+slot-spec =
+    tie.close
+    (tie.spec
+    (λ c. search needs)
+    (λ c κs. search needs)
+    (λ c. search needs)
+    (λ c. search needs)
+    (λ c. search needs)
+    (λ c. cc)
+    (λ c. cc)
+    (λ c. cc)
+    (λ c. cc))

@@ -1,0 +1,136 @@
+// One step: the word at a position is decoded, and its effect carried out.
+use crate::effect::Effect;
+use crate::effect::effect_of;
+use crate::effect::room;
+use decode::Decoded;
+use decode::decode;
+use insns::fields::magnitude;
+use insns::op::Disp;
+use value::ops::Answer;
+use value::value::Value;
+use value::value::kind_of;
+use value::value::payload_of;
+ghost use mathlib.Core.Path.{_≡_};
+ghost use Prim.Native.Nat.{_<_};
+ghost use lib.ListN.{length};
+ghost use Rattle.value.specs.Value.{meaning};
+ghost use Rattle.value.specs.Ops.{resultOf};
+ghost use Rattle.machine.specs.Effect.{asked, size};
+ghost use Rattle.machine.specs.Step as St;
+ghost use Rattle.machine.specs.Step.{after, lent};
+
+// Moved to a position, or stopped with a number.
+pub enum Stepped {
+    Moved(usize),
+    Stopped(u8),
+}
+
+// A taken branch. The magnitude of a negative z is -z - 1, so that the target at + 1 + z is at - m.
+fn land(len: usize, at: usize, z: Disp) -> Stepped
+    requires { ⌜ at < len ⌝ }
+    ensures { λ r. ⌜ r ≡ St.toldOf (St.landOf len at (z .by)) ⌝ }
+{
+    let n = z.by as i64;
+    let m = magnitude(n) as usize;
+    if n < 0 {
+        if m <= at {
+            return Stepped::Moved(at - m);
+        }
+        return Stepped::Stopped(faults::OUT_OF_RANGE);
+    }
+    if m <= len - (at + 1) {
+        return Stepped::Moved(at + 1 + m);
+    }
+    Stepped::Stopped(faults::OUT_OF_RANGE)
+}
+
+// A branch by an answer.
+fn branch(len: usize, at: usize, z: Disp, a: Answer) -> Stepped
+    requires { ⌜ at < len ⌝ }
+    ensures { λ r. ⌜ r ≡ St.toldOf (St.branchOf len at (z .by) (resultOf a)) ⌝ }
+{
+    match a {
+        Answer::Is(v) => match v {
+            Value::Bool(b) => {
+                if b {
+                    return land(len, at, z);
+                }
+                Stepped::Moved(at + 1)
+            }
+            Value::Nil => Stepped::Stopped(faults::WRONG_KIND),
+            Value::Int(_) => Stepped::Stopped(faults::WRONG_KIND),
+            Value::Float(_) => Stepped::Stopped(faults::WRONG_KIND),
+            Value::Nan(_) => Stepped::Stopped(faults::WRONG_KIND),
+        },
+        Answer::Fault(n) => Stepped::Stopped(n),
+    }
+}
+
+// An answer goes into a register.
+fn put(
+    len: usize,
+    at: usize,
+    d: usize,
+    a: Answer,
+    kinds: &mut [u8],
+    payloads: &mut [u64],
+) -> Stepped
+    requires { ⌜ at < len ⌝ }
+    ensures { λ r. ⌜ after r (now (kinds .exit)) (now (payloads .exit)) ≡ lent (now (kinds .entry)) (now (payloads .entry)) (St.writeOf (size (now (kinds .entry)) (now (payloads .entry))) at d (resultOf a)) ⌝ }
+{
+    if room(kinds, payloads) <= d {
+        return Stepped::Stopped(faults::OUT_OF_RANGE);
+    }
+    match a {
+        Answer::Is(v) => {
+            kinds[d] = kind_of(v);
+            payloads[d] = payload_of(v);
+            Stepped::Moved(at + 1)
+        }
+        Answer::Fault(n) => Stepped::Stopped(n),
+    }
+}
+
+fn settle(len: usize, at: usize, e: Effect, kinds: &mut [u8], payloads: &mut [u64]) -> Stepped
+    requires { ⌜ at < len ⌝ }
+    ensures { λ r. ⌜ after r (now (kinds .exit)) (now (payloads .exit)) ≡ lent (now (kinds .entry)) (now (payloads .entry)) (St.settleOf len (size (now (kinds .entry)) (now (payloads .entry))) at (asked e)) ⌝ }
+{
+    match e {
+        Effect::Write(d, a) => put(len, at, d as usize, a, kinds, payloads),
+        Effect::Branch(z, a) => branch(len, at, z, a),
+        Effect::Next => Stepped::Moved(at + 1),
+        Effect::Halt(n) => Stepped::Stopped(n),
+    }
+}
+
+// What the word asks for.
+fn word_effect(
+    w: u64,
+    kinds: &[u8],
+    payloads: &[u64],
+    slot_kinds: &[u8],
+    slot_payloads: &[u64],
+) -> Effect
+    ensures { λ r. ⌜ asked r ≡ St.wordOf (now (kinds .entry)) (now (payloads .entry)) (now («slot_kinds» .entry)) (now («slot_payloads» .entry)) w ⌝ }
+{
+    let Decoded::Is(i) = decode(w) else {
+        return Effect::Halt(faults::UNDECODED);
+    };
+    effect_of(i, kinds, payloads, slot_kinds, slot_payloads)
+}
+
+// The step at a position of the code.
+pub fn step(
+    words: &[u64],
+    at: usize,
+    kinds: &mut [u8],
+    payloads: &mut [u64],
+    slot_kinds: &[u8],
+    slot_payloads: &[u64],
+) -> Stepped
+    requires { ⌜ at < length (now words) ⌝ }
+    ensures { λ r. ⌜ after r (now (kinds .exit)) (now (payloads .exit)) ≡ St.stepOf (now (words .entry)) (now («slot_kinds» .entry)) (now («slot_payloads» .entry)) at (now (kinds .entry)) (now (payloads .entry)) ⌝ }
+{
+    let e = word_effect(words[at], kinds, payloads, slot_kinds, slot_payloads);
+    settle(words.len(), at, e, kinds, payloads)
+}
