@@ -1,6 +1,8 @@
 -- The laws of `machine`: those that its proofs cite, and those of its definitions that `runner` and `agree` cite.
 pub mod EffectLaws
 pub mod StepLaws
+pub mod RunLaws
+pub mod RunFacts
 pub mod Written
 pub mod Lends
 pub mod Lent

@@ -31,7 +31,7 @@ use Rattle.decode.specs.declared.Decoded.{Decoded}
 use Rattle.decode.specs.Decode.{decodeOf}
 use Rattle.decode.proofs.Facts.{load-raw}
 use Rattle.value.specs.Value.{Datum, nil, bool, int, float}
-use Rattle.value.specs.Ops.{Result, is, fault, fromInt, isNumber, ofNumbers, arithNumbers, arithOf, wholeOf}
+use Rattle.value.specs.Ops.{Result, is, fault, fromInt, arithOf, wholeOf}
 use Rattle.value.proofs.RoundTrip.{Holds}
 use Rattle.machine.specs.Effect.{Effect, write, branch, next, halt, both, literal, mask, rawOf, inverted, threeKind, arithKind, shiftKind, bareOf, twoOf, slotOf, threeOf, effectOf}
 use Rattle.machine.specs.Step.{Next, go, put, stop, landAt, landOf, branchOf, putOf, settleOf, decodedOf}
@@ -64,14 +64,14 @@ unfolding rawOf
 raws z s = picks (eqb (ofZ w64 z) 1) (record { back = tt }) (picks (eqb (ofZ w64 z) 5) (record { back = tt }) (picks (eqb (ofZ w64 z) 9) (record { back = tt }) (record { back = record { sfits = lt-of-le-of-lt (mag-shr z 4) (s .sfits) } })))
 
 masks : (lo len : ℕ) → Held (mask lo len)
-unfolding I.mask
-masks lo len = record { back = sfits-toZ {w = w64} {n = I.mask lo len} (record { fits = mod-lt (2 ^ lo * (2 ^ len - 1)) (lit< tt) }) }
+unfolding I.maskOf
+masks lo len = record { back = sfits-toZ {w = w64} {n = I.maskOf lo len} (record { fits = mod-lt (2 ^ lo * (2 ^ len - 1)) (lit< tt) }) }
 
 -- a literal is no larger than an Int's result may be
 sums-imm : (i : IntOp.Op) (f : FloatOp.Op) (v : Datum) (z : ℤ) → ((a : ℤ) → Held (fromInt (I.operate i a z))) → Held (arithOf i f v (int z))
-unfolding arithOf ofNumbers isNumber arithNumbers
-sums-imm i f nil z h = record { back = tt }
-sums-imm i f (bool b) z h = record { back = tt }
+unfolding arithOf
+sums-imm i f nil z h = as-floats f nil (int z)
+sums-imm i f (bool b) z h = as-floats f (bool b) (int z)
 sums-imm i f (int a) z h = h a
 sums-imm i f (float p) z h = as-floats f (float p) (int z)
 
