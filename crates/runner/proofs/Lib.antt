@@ -1,0 +1,2 @@
+-- The laws that the proofs of `runner` cite.
+pub mod NextLaws

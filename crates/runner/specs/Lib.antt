@@ -1,0 +1,1 @@
+-- The definition of a run is the machine's: `specs/Run.antt` of the crate `machine`.
