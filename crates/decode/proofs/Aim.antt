@@ -11,9 +11,11 @@ use lib.IntN.{ℤ, pos, negsuc, _+ℤ_, _-ℤ_}
 use lib.ListN.{length, getD, drop, drop-of-length-le}
 use lib.Seq.{drop-cons}
 use lib.Signed.{mag}
-use mir.Syntax.{w64}
-use mir.Val.{toZ}
+use mir.Syntax.{w32, w64}
+use mir.Val.{SFits, toZ, ofZ}
+use mir.Facts.{toZ-ofZ}
 use mir.ValLaws.{toZ-pos}
+use Rattle.insns.proofs.Sign.{back}
 use Rattle.insns.specs.Insns.{madeOf}
 use Rattle.insns.specs.declared.Made.{Made}
 use Rattle.insns.specs.declared.op.Disp.{Disp}
@@ -36,7 +38,7 @@ known f k q = q ∙ ap f (sym k)
 forward : (at t : ℕ) → at < t → difference at t ≡ pos (t - suc at)
 forward at t h = simp (le-ltb t (suc at) h)
 
-pub small : (at t : ℕ) → at < 2305843009213693952 → t < 4611686018427387904 → mag (difference at t) < 4611686018427387904
+small : (at t : ℕ) → at < 2305843009213693952 → t < 4611686018427387904 → mag (difference at t) < 4611686018427387904
 small at t a l = go (ltb t (suc at))
   where
     go : (b : Bool) → mag (cond b (negsuc (suc at - suc t)) (pos (t - suc at))) < 4611686018427387904
@@ -44,7 +46,7 @@ small at t a l = go (ltb t (suc at))
     go false = omega arith
 
 -- what the code computes
-pub diff : (at t : ℕ) → at < 2305843009213693952 → t < 4611686018427387904 → toZ w64 t -ℤ toZ w64 (at + 1) ≡ difference at t
+diff : (at t : ℕ) → at < 2305843009213693952 → t < 4611686018427387904 → toZ w64 t -ℤ toZ w64 (at + 1) ≡ difference at t
 diff at t a l =
     let p : toZ w64 t ≡ pos t = toZ-pos w64 t (omega arith) in
     let k : suc at < 9223372036854775808 = omega arith in
@@ -54,7 +56,7 @@ diff at t a l =
 abbrev near : ℕ → ℕ → Reach
 near at t = Reach.By (record { by = difference at t })
 
-pub far-off : (at t : ℕ) → 2147483648 ≤ mag (difference at t) → Reach.Far ≡ reachOf at t
+far-off : (at t : ℕ) → 2147483648 ≤ mag (difference at t) → Reach.Far ≡ reachOf at t
 unfolding reachOf
 far-off at t h = ap (λ (b : Bool). pickReach b (near at t) Reach.Far) (sym (le-ltb (mag (difference at t)) 2147483648 h))
 
@@ -67,6 +69,29 @@ past-62 at t a l =
     let h : at < t = omega arith in
     let m : mag (difference at t) ≡ t - suc at = ap mag (forward at t h) in
     far-off at t (omega arith)
+
+-- the code's difference d, and the magnitude m of it
+module _ (at t : ℕ) (a : at < 2305843009213693952) (l : t < 4611686018427387904) where
+  pub d-fits : SFits w64 (toZ w64 t -ℤ toZ w64 (at + 1))
+  d-fits = let k = small at t a l in rw (diff at t a l) (record { sfits = omega arith })
+
+  d-held : toZ w64 (ofZ w64 (toZ w64 t -ℤ toZ w64 (at + 1))) ≡ difference at t
+  d-held = toZ-ofZ d-fits ∙ diff at t a l
+
+  module _ {m : ℕ} (e : m ≡ mag (toZ w64 (ofZ w64 (toZ w64 t -ℤ toZ w64 (at + 1))))) where
+    mag-is : m ≡ mag (difference at t)
+    mag-is = e ∙ ap mag d-held
+
+    pub near-by : m < 2147483648 → Reach.By (record { by = toZ w32 (ofZ w32 (toZ w64 (ofZ w64 (toZ w64 t -ℤ toZ w64 (at + 1))))) }) ≡ reachOf at t
+    near-by h =
+        let k : mag (difference at t) < 2147483648 = omega (arith, mag-is) in
+        let z : toZ w32 (ofZ w32 (toZ w64 (ofZ w64 (toZ w64 t -ℤ toZ w64 (at + 1))))) ≡ difference at t = ap (λ (y : ℤ). toZ w32 (ofZ w32 y)) d-held ∙ back w32 (difference at t) k in
+        ap (λ (y : ℤ). Reach.By (record { by = y })) z ∙ in-reach at t k
+
+    pub far-by : 2147483648 ≤ m → Reach.Far ≡ reachOf at t
+    far-by h = far-off at t (omega (arith, mag-is))
+
+pub ruleset displacements = (past-62, d-fits, near-by, far-by)
 
 -- ---- a branch is aimed
 

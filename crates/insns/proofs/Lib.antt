@@ -1,3 +1,5 @@
+-- Laws of the instruction words.
 pub mod Packing
 pub mod Sign
+pub mod Table
 pub mod Arms

@@ -1,7 +1,8 @@
 -- `form::form` meets its contract: in an arm the opcode is the arm's number, and past the arms it is past the table. Assumes nothing.
 use mathlib.Core.Path.{sym, ap}
 use Rattle.insns.specs.Insns.{formAt}
-use Rattle.decode.proofs.Table.{none, past}
+use Rattle.insns.proofs.Table.{past}
+use Rattle.decode.proofs.Table.{none}
 use Rattle.decode.proofs.form.form.Statement.{statement}
 use Rattle.decode.proofs.form.form.Tie as tie
 

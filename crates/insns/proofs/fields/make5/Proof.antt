@@ -9,7 +9,7 @@ use Rattle.insns.proofs.fields.make5.Statement.{statement}
 use Rattle.insns.proofs.fields.make5.Tie as tie
 
 known : (c : tie.Else5) → let g = c .before .before .before .before .before .args in Below 72057594037927936 (g .m1) (g .a) (g .m2) (g .b) (g .m3) (g .c) (g .m4) (g .d) (g .e)
-known c = below 72057594037927936 (c .before .before .before .before .if1 .left) (c .before .before .before .if2 .left) (c .before .before .if3 .left) (c .before .if4 .left) (c .if5 .left) (c .before .before .before .before .before .pre)
+known c = below 72057594037927936 (omega arith) (omega arith) (omega arith) (omega arith) (c .if5 .left) (c .before .before .before .before .before .pre)
 
 pub make5-spec : {M : Type 1} → statement M
 unfolding wordIf
