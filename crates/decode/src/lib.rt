@@ -43,7 +43,7 @@ pub fn decode(w: u64) -> Decoded
     let x = w / 256;
     let x1 = x / 65536;
     let x2 = x1 / 65536;
-    match form(w % 256) {
+    match form((w % 256) as u8) {
         Form::Bare(k) => if_whole(x, Op::Bare(k)),
         Form::LoadImm40 => {
             let n = x1 % 1099511627776;
