@@ -1,0 +1,235 @@
+// Replays runs of instruction words on lent registers and slots, and writes what the machine answers; tools/oracle/README.md has the layout.
+ghost use Prim.Native.Nat.{_≤_};
+ghost use lib.ListN.{length};
+use machine::run::Ran;
+
+// Room for the largest record.
+const WORDS: usize = 128;
+
+const PAIRS: usize = 32;
+
+// n, or the room where that is less.
+fn within(n: u64, room: usize) -> usize
+    ensures { λ r. ⌜ r ≤ room ⌝ }
+{
+    if n < room as u64 {
+        return n as usize;
+    }
+    room
+}
+
+// The whole from a start, or a part.
+fn ran(
+    words: &[u64],
+    entry: u64,
+    end: u64,
+    start: u64,
+    budget: u64,
+    kinds: &mut [u8],
+    payloads: &mut [u64],
+    slot_kinds: &[u8],
+    slot_payloads: &[u64],
+) -> Ran {
+    if entry == 0 {
+        if end == words.len() as u64 {
+            return runner::run(
+                words,
+                start as usize,
+                kinds,
+                payloads,
+                slot_kinds,
+                slot_payloads,
+                budget,
+            );
+        }
+    }
+    runner::run_part(
+        words,
+        entry as usize,
+        end as usize,
+        kinds,
+        payloads,
+        slot_kinds,
+        slot_payloads,
+        budget,
+    )
+}
+
+fn answer(
+    words: &[u64],
+    entry: u64,
+    end: u64,
+    start: u64,
+    budget: u64,
+    kinds: &mut [u8],
+    payloads: &mut [u64],
+    slot_kinds: &[u8],
+    slot_payloads: &[u64],
+) {
+    let r = ran(
+        words,
+        entry,
+        end,
+        start,
+        budget,
+        kinds,
+        payloads,
+        slot_kinds,
+        slot_payloads,
+    );
+    wire::write_word(r.number as u64);
+    wire::write_word(r.steps);
+    wire::write_word(r.position as u64);
+    wire::write_bytes(kinds);
+    wire::write_words(payloads);
+}
+
+// The first k kinds and p payloads are lent.
+fn lend(
+    words: &[u64],
+    entry: u64,
+    end: u64,
+    start: u64,
+    budget: u64,
+    kinds: &mut [u8],
+    k: usize,
+    payloads: &mut [u64],
+    p: usize,
+    slot_kinds: &[u8],
+    slot_payloads: &[u64],
+)
+    requires { ⌜ k ≤ length (now kinds) ⌝ }
+    requires { ⌜ p ≤ length (now payloads) ⌝ }
+{
+    answer(
+        words,
+        entry,
+        end,
+        start,
+        budget,
+        &mut kinds[..k],
+        &mut payloads[..p],
+        slot_kinds,
+        slot_payloads,
+    );
+}
+
+fn fill(
+    nw: u64,
+    words: &mut [u64],
+    nk: u64,
+    kinds: &mut [u8],
+    np: u64,
+    payloads: &mut [u64],
+    nsk: u64,
+    slot_kinds: &mut [u8],
+    nsp: u64,
+    slot_payloads: &mut [u64],
+) {
+    wire::read_words(words, nw);
+    wire::read_bytes(kinds, nk);
+    wire::read_words(payloads, np);
+    wire::read_bytes(slot_kinds, nsk);
+    wire::read_words(slot_payloads, nsp);
+}
+
+// What was read is run, as much of each as was announced.
+fn serve(
+    nw: u64,
+    words: &[u64],
+    entry: u64,
+    end: u64,
+    start: u64,
+    budget: u64,
+    nk: u64,
+    kinds: &mut [u8],
+    np: u64,
+    payloads: &mut [u64],
+    nsk: u64,
+    slot_kinds: &[u8],
+    nsp: u64,
+    slot_payloads: &[u64],
+) {
+    let w = within(nw, words.len());
+    let k = within(nk, kinds.len());
+    let p = within(np, payloads.len());
+    let sk = within(nsk, slot_kinds.len());
+    let sp = within(nsp, slot_payloads.len());
+    lend(
+        &words[..w],
+        entry,
+        end,
+        start,
+        budget,
+        kinds,
+        k,
+        payloads,
+        p,
+        &slot_kinds[..sk],
+        &slot_payloads[..sp],
+    );
+}
+
+fn replay(
+    words: &mut [u64],
+    kinds: &mut [u8],
+    payloads: &mut [u64],
+    slot_kinds: &mut [u8],
+    slot_payloads: &mut [u64],
+) {
+    let nw = wire::read_word();
+    let entry = wire::read_word();
+    let end = wire::read_word();
+    let start = wire::read_word();
+    let budget = wire::read_word();
+    let nk = wire::read_word();
+    let np = wire::read_word();
+    let nsk = wire::read_word();
+    let nsp = wire::read_word();
+    fill(
+        nw,
+        words,
+        nk,
+        kinds,
+        np,
+        payloads,
+        nsk,
+        slot_kinds,
+        nsp,
+        slot_payloads,
+    );
+    serve(
+        nw,
+        words,
+        entry,
+        end,
+        start,
+        budget,
+        nk,
+        kinds,
+        np,
+        payloads,
+        nsk,
+        slot_kinds,
+        nsp,
+        slot_payloads,
+    );
+}
+
+fn main() {
+    let mut words = [0u64; WORDS];
+    let mut kinds = [0u8; PAIRS];
+    let mut payloads = [0u64; PAIRS];
+    let mut slot_kinds = [0u8; PAIRS];
+    let mut slot_payloads = [0u64; PAIRS];
+    let n = wire::read_word();
+    for _ in 0..n {
+        replay(
+            &mut words,
+            &mut kinds,
+            &mut payloads,
+            &mut slot_kinds,
+            &mut slot_payloads,
+        );
+    }
+}
