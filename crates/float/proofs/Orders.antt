@@ -1,17 +1,17 @@
 -- The kit's comparisons of floats are those of `specs/Binary64`, which compare whole numbers of steps. Assumes nothing.
 use mathlib.Core.Path.{_≡_, refl, sym, ap, ap₂, _∙_}
 use mathlib.Core.Bool.{Bool, true, false, not, _&&_, _||_, Bool·beq, cond}
-use Prim.Native.Nat.{ℕ, zero, suc, _+_, _*_, _/_, _≤_, _<_, _^_}
+use Prim.Native.Nat.{ℕ, zero, suc, _+_, _*_, _/_, _<_, _^_}
 use native.Mathlib.Nat.{mul-pos, zero-add, add-comm}
-use native.Mathlib.Decide.{decLt, decLe, ℕ-discrete}
+use native.Mathlib.Decide.{decLt, ℕ-discrete}
 use native.Mathlib.Omega.{arith}
-use lib.Dec.{T, ltb, eqb}
+use lib.Dec.{ltb, eqb}
 use lib.Pow.{pow-pos}
 use lib.Signed.{ltZ}
 use lib.Ieee as Ieee
 use lib.Ieee.{Float, binary64, up, down, ofBits}
 use lib.Ieee.Fits.{down-pos}
-use borrow.Author.Tests.{lt-ltb, le-ltb, eq-eqb, ne-eqb, ltb-true}
+use borrow.Author.Tests.{lt-ltb, le-ltb, eq-eqb, ne-eqb}
 use Rattle.int64.specs.Int.{withSign}
 use Rattle.int64.specs.Order.{Order, less, equal, greater, unordered, isLess, isEqual, isGreater, orderZ, holds}
 use Rattle.int64.specs.declared.Cmp.{Cmp}

@@ -5,14 +5,13 @@ use Prim.Native.Nat.{ℕ, _^_}
 use lib.IntN.{ℤ}
 use lib.Signed.{mag}
 use mir.Syntax.{w64}
-use mir.Val.{toZ, ofZ}
+use mir.Val.{toZ}
 use mir.ValLaws.{toZ-ofZ}
 use borrow.Author.Tests.{ltb-true}
 use Rattle.faults.specs.Numbers.{overflow}
 use Rattle.int64.specs.Int as I
 use Rattle.int64.specs.Order.{orderZ, holds}
 use Rattle.int64.specs.declared.Op as IntOp
-use Rattle.int64.specs.declared.Op.the-variants as IO
 use Rattle.int64.specs.declared.bits.Arith.{Arith}
 use Rattle.int64.specs.declared.bits.Arith.the-variants as B
 use Rattle.int64.specs.declared.Cmp.{Cmp}
@@ -21,7 +20,7 @@ use Rattle.float.specs.Binary64.{read}
 use Rattle.float.specs.declared.Op as FloatOp
 use Rattle.float.specs.declared.Op.the-variants as FO
 use Rattle.value.specs.Value.{int, float, payloadOf}
-use Rattle.value.specs.Ops.{Result, is, fault, truth, isNumber, ofNumbers, fromInt, converted, floats, asFloats, arithOf, wholeOf, compareNumbers, compareOf, binaryOf}
+use Rattle.value.specs.Ops.{is, fault, truth, isNumber, ofNumbers, fromInt, converted, floats, asFloats, arithOf, wholeOf, compareNumbers, compareOf, binaryOf}
 
 -- ---- Add, Sub, Mul, by the node kind
 

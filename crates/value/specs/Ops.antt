@@ -2,7 +2,7 @@
 use Prim.Native.Nat.{ℕ, _^_}
 use mathlib.Core.Bool.{Bool, true, false, not, _&&_, cond}
 use lib.Dec.{leb, eqb}
-use lib.IntN.{ℤ, pos, negsuc, natAbs}
+use lib.IntN.{ℤ, negsuc, natAbs}
 use Rattle.faults.specs.Numbers.{wrongKind, notExact}
 use Rattle.float.specs.Binary64 as F
 use Rattle.float.specs.Binary64.{read}
