@@ -1,0 +1,116 @@
+-- `gen_cond_value`: The rule meets its contract. Assumes nothing.
+use Prim.Native.Nat.{ℕ}
+use Rattle.codegen.proofs.Parts.{listed, prefix, kept-jumps}
+use Rattle.codegen.proofs.Values.{cond-stop, cond-refused, cond-value}
+use Rattle.codegen.proofs.Walk.{rules, cond-over-branch, ready-dest}
+use Rattle.codegen.proofs.rules.gen_branch.Reads as gen-branch
+use Rattle.codegen.proofs.rules.gen_cond_value.Reads as gen-cond-value
+use Rattle.emit.proofs.jump.gen_bool.Reads as gen-bool-reads
+use Rattle.emit.proofs.state.dest.Reads as dest-reads
+use Rattle.codegen.proofs.rules.+gen_arms+gen_bin_op+gen_branch+gen_code_inner+gen_cond_value+gen_into+gen_junction+gen_pair+gen_ternary+gen_test+gen_two.Lts-gen_cond_value as lts
+use Rattle.codegen.proofs.rules.+gen_arms+gen_bin_op+gen_branch+gen_code_inner+gen_cond_value+gen_into+gen_junction+gen_pair+gen_ternary+gen_test+gen_two.Proof.Measures.{gen-branch-below, gen-cond-value-at}
+
+module _ (t : ℕ) where
+  abbrev cl : lts.Claims
+  cl = (dest-reads.Asked, dest-reads.Learnt, gen-branch-below t, gen-branch.Post, gen-bool-reads.Asked, gen-bool-reads.Learnt)
+
+  dest-requires : lts.Need-dest-requires cl (gen-cond-value-at t) gen-cond-value.Post
+  dest-requires c κs = search rules
+
+  enum-known-x : lts.Need-enum-known-x cl (gen-cond-value-at t) gen-cond-value.Post
+  enum-known-x c = search rules
+
+  enum-told : lts.Need-enum-told cl (gen-cond-value-at t) gen-cond-value.Post
+  enum-told c = search rules
+
+  returns : lts.Need-returns cl (gen-cond-value-at t) gen-cond-value.Post
+  returns c =
+      let c1 = c .before .before .before .before .before .before .before in
+      cond-stop (c1 .pre .1 .0) _ _ (c1 .pre .1 .1) (c .before .before .dest .ensures) (c .enum-told .given .1)
+
+  gen-branch-requires : lts.Need-gen-branch-requires cl (gen-cond-value-at t) gen-cond-value.Post
+  gen-branch-requires c κs =
+      let c1 = c .before .before .before .before in
+      let c2 = c1 .before .before in
+      let c3 = c2 .before .before .before .before .before in
+      (cond-over-branch (c3 .args .nodes .now) (c3 .args .i) t (c3 .pre .0) (c3 .pre .1 .1 .0) (c3 .pre .1 .1 .1), ready-dest (c3 .pre .1 .0) _ (c2 .dest .ensures) (c1 .x .given .1))
+
+  enum-known-y : lts.Need-enum-known-y cl (gen-cond-value-at t) gen-cond-value.Post
+  enum-known-y c = search rules
+
+  slice-reshare-prefix-gen-bool : lts.Need-slice-reshare-prefix-gen-bool cl (gen-cond-value-at t) gen-cond-value.Post
+  slice-reshare-prefix-gen-bool c =
+      let c1 = c .before .before .before .before .before .before .before .before .before .before in
+      listed (c .before .before .y .given .1) (c1 .gen-branch .ensures)
+
+  slice-aggregate-gen-bool : lts.Need-slice-aggregate-gen-bool cl (gen-cond-value-at t) gen-cond-value.Post
+  slice-aggregate-gen-bool c =
+      let c1 = c .before .before .before in
+      let c2 = c1 .before .before .before .before .before .before .before .before in
+      prefix _ _ (listed (c1 .y .given .1) (c2 .gen-branch .ensures))
+
+  gen-bool-requires : lts.Need-gen-bool-requires cl (gen-cond-value-at t) gen-cond-value.Post
+  gen-bool-requires c κs =
+      let c1 = c .before .before .before in
+      let c2 = c1 .before .before .before .before .before .before .before .before in
+      kept-jumps (c1 .y .given .1) (c2 .gen-branch .ensures) .words
+
+  enum-known-y-2 : lts.Need-enum-known-y-2 cl (gen-cond-value-at t) gen-cond-value.Post
+  enum-known-y-2 c = search rules
+
+  same-length : lts.Need-same-length cl (gen-cond-value-at t) gen-cond-value.Post
+  same-length c = search rules
+
+  same-length-2 : lts.Need-same-length-2 cl (gen-cond-value-at t) gen-cond-value.Post
+  same-length-2 c = search rules
+
+  same-length-3 : lts.Need-same-length-3 cl (gen-cond-value-at t) gen-cond-value.Post
+  same-length-3 c = search rules
+
+  returns-2 : lts.Need-returns-2 cl (gen-cond-value-at t) gen-cond-value.Post
+  returns-2 c =
+      let c1 = c .before .before .before .before .before .before in
+      let c2 = c1 .before .before .before .before .before .before .before .before in
+      let c3 = c2 .before .before .before .before .before in
+      let c4 = c3 .before .before in
+      let c5 = c4 .before .before .before .before .before in
+      cond-value (c5 .pre .1 .0) _ _ (c5 .pre .1 .1) (c4 .dest .ensures) (c3 .x .given .1) (c2 .gen-branch .ensures) (c1 .y .given .1) (c .before .before .gen-bool .ensures)
+
+  same-length-4 : lts.Need-same-length-4 cl (gen-cond-value-at t) gen-cond-value.Post
+  same-length-4 c = search rules
+
+  same-length-5 : lts.Need-same-length-5 cl (gen-cond-value-at t) gen-cond-value.Post
+  same-length-5 c = search rules
+
+  same-length-6 : lts.Need-same-length-6 cl (gen-cond-value-at t) gen-cond-value.Post
+  same-length-6 c = search rules
+
+  returns-3 : lts.Need-returns-3 cl (gen-cond-value-at t) gen-cond-value.Post
+  returns-3 c =
+      let c1 = c .before .before .before .before .before .before .before .before .before in
+      let c2 = c1 .before .before .before .before .before in
+      let c3 = c2 .before .before in
+      let c4 = c3 .before .before .before .before .before in
+      cond-refused (c4 .pre .1 .0) _ _ (c4 .pre .1 .1) (c3 .dest .ensures) (c2 .x .given .1) (c1 .gen-branch .ensures) (c .before .y2 .given .1)
+
+  pub gen-cond-value-holds : (M : Type 1) → lts.Closed cl (gen-cond-value-at t) gen-cond-value.Post M
+  gen-cond-value-holds M =
+      lts.spec cl (gen-cond-value-at t) gen-cond-value.Post
+      dest-requires
+      enum-known-x
+      enum-told
+      returns
+      gen-branch-requires
+      enum-known-y
+      slice-reshare-prefix-gen-bool
+      slice-aggregate-gen-bool
+      gen-bool-requires
+      enum-known-y-2
+      same-length
+      same-length-2
+      same-length-3
+      returns-2
+      same-length-4
+      same-length-5
+      same-length-6
+      returns-3

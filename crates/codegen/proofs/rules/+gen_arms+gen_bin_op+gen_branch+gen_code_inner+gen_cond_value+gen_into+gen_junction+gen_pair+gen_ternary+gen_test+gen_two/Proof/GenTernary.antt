@@ -1,0 +1,112 @@
+-- `gen_ternary`: The rule meets its contract. Assumes nothing.
+use Prim.Native.Nat.{ℕ}
+use Rattle.codegen.proofs.Parts.{listed}
+use Rattle.codegen.proofs.Values.{ternary-stop, ternary-refused, ternary-value}
+use Rattle.codegen.proofs.Walk.{rules, child-branch, op-over-two, ready-child, ready-dest, ready-jumps}
+use Rattle.codegen.proofs.rules.gen_arms.Reads as gen-arms
+use Rattle.codegen.proofs.rules.gen_branch.Reads as gen-branch
+use Rattle.codegen.proofs.rules.gen_ternary.Reads as gen-ternary
+use Rattle.emit.proofs.state.dest.Reads as dest-reads
+use Rattle.table.proofs.child_3.Reads as child-3-reads
+use Rattle.codegen.proofs.rules.+gen_arms+gen_bin_op+gen_branch+gen_code_inner+gen_cond_value+gen_into+gen_junction+gen_pair+gen_ternary+gen_test+gen_two.Lts-gen_ternary as lts
+use Rattle.codegen.proofs.rules.+gen_arms+gen_bin_op+gen_branch+gen_code_inner+gen_cond_value+gen_into+gen_junction+gen_pair+gen_ternary+gen_test+gen_two.Proof.Measures.{gen-arms-below, gen-branch-below, gen-ternary-at}
+
+module _ (t : ℕ) where
+  abbrev cl : lts.Claims
+  cl = (dest-reads.Asked, dest-reads.Learnt, child-3-reads.Asked, child-3-reads.Learnt, gen-branch-below t, gen-branch.Post, gen-arms-below t, gen-arms.Post)
+
+  dest-requires : lts.Need-dest-requires cl (gen-ternary-at t) gen-ternary.Post
+  dest-requires c κs = search rules
+
+  enum-known-x : lts.Need-enum-known-x cl (gen-ternary-at t) gen-ternary.Post
+  enum-known-x c = search rules
+
+  enum-told : lts.Need-enum-told cl (gen-ternary-at t) gen-ternary.Post
+  enum-told c = search rules
+
+  returns : lts.Need-returns cl (gen-ternary-at t) gen-ternary.Post
+  returns c =
+      let c1 = c .before .before .before .before .before .before .before in
+      ternary-stop (c1 .pre .1 .0) _ _ (c1 .pre .1 .1) (c .before .before .dest .ensures) (c .enum-told .given .1)
+
+  child-3-requires : lts.Need-child-3-requires cl (gen-ternary-at t) gen-ternary.Post
+  child-3-requires c κs = search rules
+
+  gen-branch-requires : lts.Need-gen-branch-requires cl (gen-ternary-at t) gen-ternary.Post
+  gen-branch-requires c κs =
+      let c1 = c .before .before .before .before .before in
+      let c2 = c1 .before .before in
+      let c3 = c2 .before .before .before .before .before in
+      (child-branch 2 (c3 .pre .0) _ _ (c .child-3 .ensures) (c3 .pre .1 .0), ready-child (ready-dest (c3 .pre .1 .0) _ (c2 .dest .ensures) (c1 .x .given .1)) (c .child-3 .ensures))
+
+  enum-known-y : lts.Need-enum-known-y cl (gen-ternary-at t) gen-ternary.Post
+  enum-known-y c = search rules
+
+  gen-arms-requires : lts.Need-gen-arms-requires cl (gen-ternary-at t) gen-ternary.Post
+  gen-arms-requires c κs =
+      let c1 = c .before .before .before .before in
+      let c2 = c1 .before .before .before .before .before .before .before .before in
+      let c3 = c2 .before .before .before .before .before .before .before .before .before .before .before .before .before in
+      (op-over-two (c3 .args .nodes .now) (c3 .args .i) t (c3 .pre .0), (ready-jumps (c3 .pre .1 .0) (c1 .y .given .1) (c2 .gen-branch .ensures), c3 .pre .1 .1, listed (c1 .y .given .1) (c2 .gen-branch .ensures)))
+
+  enum-known-y-2 : lts.Need-enum-known-y-2 cl (gen-ternary-at t) gen-ternary.Post
+  enum-known-y-2 c = search rules
+
+  same-length : lts.Need-same-length cl (gen-ternary-at t) gen-ternary.Post
+  same-length c = search rules
+
+  same-length-2 : lts.Need-same-length-2 cl (gen-ternary-at t) gen-ternary.Post
+  same-length-2 c = search rules
+
+  same-length-3 : lts.Need-same-length-3 cl (gen-ternary-at t) gen-ternary.Post
+  same-length-3 c = search rules
+
+  returns-2 : lts.Need-returns-2 cl (gen-ternary-at t) gen-ternary.Post
+  returns-2 c =
+      let c1 = c .before .before .before .before .before .before in
+      let c2 = c1 .before .before .before .before .before in
+      let c3 = c2 .before .before .before .before .before .before .before .before in
+      let c4 = c3 .before in
+      let c5 = c4 .before .before .before .before .before in
+      let c6 = c5 .before .before in
+      let c7 = c6 .before .before .before .before .before in
+      ternary-value (c7 .pre .1 .0) _ _ (c7 .pre .1 .1) (c6 .dest .ensures) (c5 .x .given .1) (c4 .child-3 .ensures) (c3 .gen-branch .ensures) (c2 .y .given .1) (c3 .gen-branch .kept .1 .1 .1 .0) (c1 .gen-arms .ensures)
+
+  same-length-4 : lts.Need-same-length-4 cl (gen-ternary-at t) gen-ternary.Post
+  same-length-4 c = search rules
+
+  same-length-5 : lts.Need-same-length-5 cl (gen-ternary-at t) gen-ternary.Post
+  same-length-5 c = search rules
+
+  same-length-6 : lts.Need-same-length-6 cl (gen-ternary-at t) gen-ternary.Post
+  same-length-6 c = search rules
+
+  returns-3 : lts.Need-returns-3 cl (gen-ternary-at t) gen-ternary.Post
+  returns-3 c =
+      let c1 = c .before .before .before .before .before .before .before .before .before in
+      let c2 = c1 .before in
+      let c3 = c2 .before .before .before .before .before in
+      let c4 = c3 .before .before in
+      let c5 = c4 .before .before .before .before .before in
+      ternary-refused (c5 .pre .1 .0) _ _ (c5 .pre .1 .1) (c4 .dest .ensures) (c3 .x .given .1) (c2 .child-3 .ensures) (c1 .gen-branch .ensures) (c .before .y2 .given .1)
+
+  pub gen-ternary-holds : (M : Type 1) → lts.Closed cl (gen-ternary-at t) gen-ternary.Post M
+  gen-ternary-holds M =
+      lts.spec cl (gen-ternary-at t) gen-ternary.Post
+      dest-requires
+      enum-known-x
+      enum-told
+      returns
+      child-3-requires
+      gen-branch-requires
+      enum-known-y
+      gen-arms-requires
+      enum-known-y-2
+      same-length
+      same-length-2
+      same-length-3
+      returns-2
+      same-length-4
+      same-length-5
+      same-length-6
+      returns-3

@@ -1,0 +1,12 @@
+-- `fold::within` meets its contract: by the number that is handed on. Assumes nothing.
+use borrow.Author.Needs.{needs}
+use Rattle.emit.proofs.Literals.{sizes}
+use Rattle.emit.proofs.fold.within.Statement.{statement}
+use Rattle.emit.proofs.fold.within.Tie as tie
+
+pub within-spec : {M : Type 1} → statement M
+within-spec =
+    tie.close
+    (tie.spec
+    (λ c κs. search needs)
+    (λ c. search (sizes, needs)))

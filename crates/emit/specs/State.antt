@@ -1,0 +1,94 @@
+-- The generator's state, and what it does to it: registers, constant slots, words, patches. A step gives an answer, or the number of a refusal.
+-- Assumes nothing: these are definitions.
+use mathlib.Core.Bool.{Bool, true, false, cond}
+use mathlib.Core.List.{List, [], _∷_, _++_}
+use Prim.Native.Nat.{ℕ, _+_, max}
+use lib.Dec.{eqb, ltb}
+use lib.ListN.{length}
+use Rattle.faults.specs.Numbers.{noRegister, noSlot, noRoom, noFit}
+use Rattle.faults.specs.Limits.{maxRegisters}
+use Rattle.value.specs.Value.{Datum}
+use Rattle.insns.specs.declared.Made.{Made}
+use Rattle.insns.specs.declared.Made.the-variants.{Fits, Refused}
+use Rattle.insns.specs.declared.op.Op.{Op}
+use Rattle.insns.specs.Insns.{madeOf}
+use Rattle.decode.specs.Patch.{patchOf, patchAll, patchedNumber, Patching}
+use Rattle.emit.specs.declared.state.Dst.{Dst}
+use Rattle.emit.specs.declared.state.Dst.the-variants.{Any, To}
+
+pub data Res (A : Type 0) : Type 0 where
+  done : A → Res A
+  fail : ℕ → Res A
+
+abbrev pub bind : {A B : Type 0} → Res A → (A → Res B) → Res B
+bind (done a) k = k a
+bind (fail n) k = fail n
+
+-- The words and the constants so far, how many of each there is room for, the next free register and the highest register count.
+pub record State : Type 0 where
+  pub words : List ℕ
+  pub cap : ℕ
+  pub slots : List Datum
+  pub slotCap : ℕ
+  pub next : ℕ
+  pub frame : ℕ
+
+-- the position of the next word
+abbrev pub here : State → ℕ
+here s = length (s .words)
+
+abbrev pub withWords : List ℕ → State → State
+withWords ws s =
+    record { words = ws; cap = s .cap; slots = s .slots; slotCap = s .slotCap; next = s .next; frame = s .frame }
+
+-- the registers from m up are free again (`free_to`)
+abbrev pub release : ℕ → State → State
+release m s =
+    record { words = s .words; cap = s .cap; slots = s .slots; slotCap = s .slotCap; next = m; frame = s .frame }
+
+-- the first free register (`alloc`)
+unfoldable pub allocD : State → Res (ℕ × State)
+allocD s =
+    cond (ltb (s .next) maxRegisters)
+    (done (s .next, record { words = s .words; cap = s .cap; slots = s .slots; slotCap = s .slotCap; next = s .next + 1; frame = max (s .frame) (s .next + 1) }))
+    (fail noRegister)
+
+-- the register that is asked for, or the first free one
+unfoldable pub destD : Dst → State → Res (ℕ × State)
+destD (To d) s = done (d, s)
+destD Any s = allocD s
+
+-- a fresh constant slot, whose place is given back (`push_const`)
+unfoldable pub slotD : Datum → State → Res (ℕ × State)
+slotD c s =
+    cond (ltb (length (s .slots)) (s .slotCap))
+    (done (length (s .slots), record { words = s .words; cap = s .cap; slots = s .slots ++ (c ∷ []); slotCap = s .slotCap; next = s .next; frame = s .frame }))
+    (fail noSlot)
+
+-- a word more; the register d, for whose value the word is, goes along as the answer
+unfoldable pub storeD : Made → ℕ → State → Res (ℕ × State)
+storeD Refused d s = fail noFit
+storeD (Fits w) d s = cond (ltb (here s) (s .cap)) (done (d, withWords (s .words ++ (w .bits ∷ [])) s)) (fail noRoom)
+
+abbrev pub emitD : Op → ℕ → State → Res (ℕ × State)
+emitD op d s = storeD (madeOf op) d s
+
+-- what patching left, or its number
+unfoldable pub patchedD : Patching → ℕ → State → Res (ℕ × State)
+patchedD r d s =
+    cond (eqb (patchedNumber (r .answer)) 0) (done (d, withWords (r .words) s)) (fail (patchedNumber (r .answer)))
+
+-- the branch at p goes to here (`patch_jump`)
+abbrev pub patchD : ℕ → ℕ → State → Res (ℕ × State)
+patchD p d s = patchedD (patchOf (s .words) p (here s)) d s
+
+-- each branch of the list goes to here (`patch_jumps`)
+abbrev pub patchesD : List ℕ → ℕ → State → Res (ℕ × State)
+patchesD ps d s = patchedD (patchAll (s .words) ps (here s)) d s
+
+-- a branch, whose position is the list of jumps that is given back; 7 where the jump list has no room
+unfoldable pub leapD : Made → ℕ → State → Res (List ℕ × State)
+leapD made room s = cond (ltb 0 room) (bind (storeD made 0 s) (λ x. done (here s ∷ [], x .1))) (fail noRoom)
+
+abbrev pub jumpD : Op → ℕ → State → Res (List ℕ × State)
+jumpD op room s = leapD (madeOf op) room s
