@@ -15,4 +15,5 @@ run diff 100000 1
 run small 4
 run meaning 40000 1
 run vectors check ../../crates
+grep -q "5 of 5 programs stand" target/log || fail "a replay program is missing"
 echo "compare: all as expected"

@@ -1,0 +1,104 @@
+// Compiles node tables into lent buffers, and writes what compiling answers and leaves; tools/oracle/README.md has the layout.
+ghost use Prim.Native.Nat.{_≤_};
+use codegen::compile::Compiled;
+use table::Dest;
+
+// Room for the largest record.
+const TABLE_WORDS: usize = 16388;
+
+const WORDS: usize = 2053;
+
+const SLOTS: usize = 65;
+
+fn dest_of(d: u64) -> Dest {
+    if d == 0 {
+        return Dest::None;
+    }
+    Dest::Reg(d - 1)
+}
+
+// n, or the room where that is less.
+fn within(n: u64, room: usize) -> usize
+    ensures { λ r. ⌜ r ≤ room ⌝ }
+{
+    if n < room as u64 {
+        return n as usize;
+    }
+    room
+}
+
+fn write_answer(c: Compiled) {
+    match c {
+        Compiled::Done(words, slots, register, frame) => {
+            wire::write_word(0);
+            wire::write_word(words as u64);
+            wire::write_word(slots as u64);
+            wire::write_word(register as u64);
+            wire::write_word(frame as u64);
+        }
+        Compiled::Refused(n) => {
+            wire::write_word(n as u64);
+            wire::write_word(0);
+            wire::write_word(0);
+            wire::write_word(0);
+            wire::write_word(0);
+        }
+    }
+}
+
+fn answer(
+    nodes: &[u64],
+    params: u64,
+    locals: u64,
+    dest: u64,
+    code: &mut [u64],
+    kinds: &mut [u8],
+    payloads: &mut [u64],
+) {
+    write_answer(codegen::compile::compile(
+        nodes,
+        params,
+        locals,
+        dest_of(dest),
+        code,
+        kinds,
+        payloads,
+    ));
+    wire::write_words(code);
+    wire::write_bytes(kinds);
+    wire::write_words(payloads);
+}
+
+// The buffers are new in every record and hold no zero, so that what compiling zeroes shows.
+fn replay(nodes: &mut [u64]) {
+    let n = wire::read_word();
+    let params = wire::read_word();
+    let locals = wire::read_word();
+    let dest = wire::read_word();
+    let words = wire::read_word();
+    let slots = wire::read_word();
+    wire::read_words(nodes, n);
+    let mut code = [0xa5a5_a5a5_a5a5_a5a5u64; WORDS];
+    let mut kinds = [0xa5u8; SLOTS];
+    let mut payloads = [0xa5a5_a5a5_a5a5_a5a5u64; SLOTS];
+    let t = within(n, nodes.len());
+    let w = within(words, WORDS);
+    let s = within(slots, SLOTS);
+    answer(
+        &nodes[..t],
+        params,
+        locals,
+        dest,
+        &mut code[..w],
+        &mut kinds[..s],
+        &mut payloads[..s],
+    );
+}
+
+fn main() {
+    let mut nodes = [0u64; TABLE_WORDS];
+    let n = wire::read_word();
+    for _ in 0..n {
+        replay(&mut nodes);
+    }
+}
