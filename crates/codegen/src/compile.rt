@@ -140,8 +140,8 @@ fn finish(
     Compiled::Done(w, k, r, s.frame)
 }
 
-// Nothing is left behind.
-fn refuse(f: u8, code: &mut [u64], kinds: &mut [u8], payloads: &mut [u64]) -> Compiled
+// A refusal leaves nothing behind. Public for entries that refuse before they compile.
+pub fn refuse(f: u8, code: &mut [u64], kinds: &mut [u8], payloads: &mut [u64]) -> Compiled
     ensures { λ q. ⌜ Compiles q (fail f) (now (code .exit)) (now (kinds .exit)) (now (payloads .exit)) (length (now (code .entry))) (length (now (kinds .entry))) (length (now (payloads .entry))) ⌝ }
 {
     zero_from(code, 0);
