@@ -1,0 +1,45 @@
+-- How numbers stand for what the crates below answer. A result cell holds 0 wherever the number is not 0. Assumes nothing: these are definitions.
+use mathlib.Core.Path.{_≡_}
+use mathlib.Core.List.{List}
+use Prim.Native.Nat.{ℕ, zero, suc}
+use Rattle.table.specs.declared.Dest.{Dest}
+use Rattle.table.specs.declared.Dest.the-variants.{None, Reg}
+use Rattle.value.specs.Value.{kindOf, payloadOf}
+use Rattle.value.specs.Ops as Ops
+use Rattle.value.specs.Ops.{Result}
+use Rattle.emit.specs.State.{Res, State}
+use Rattle.codegen.specs.Compile.{answered, padded, wordsOf, kindsOf, payloadsOf}
+use Rattle.codegen.specs.declared.compile.Compiled.{Compiled}
+use Rattle.codegen.specs.declared.compile.Compiled.the-variants.{Done, Refused}
+use Rattle.vosemaqe.specs.declared.Report.{Report}
+use Rattle.vosemaqe.specs.declared.Found.{Found}
+
+-- a destination: 0 is none, r + 1 the register r
+unfoldable pub destOf : ℕ → Dest
+destOf zero = None
+destOf (suc r) = Reg r
+
+-- ---- compiling: number, words, slots, register, frame
+
+abbrev pub report : ℕ → ℕ → ℕ → ℕ → ℕ → Report
+report n w s r f = record { number = n; words = w; slots = s; register = r; frame = f }
+
+abbrev pub reportOf : Compiled → Report
+reportOf (Done w s r f) = report 0 w s r f
+reportOf (Refused n) = report n 0 0 0 0
+
+-- the report and the lent buffers, by their lengths, as the call leaves them
+pub record Compiles (r : Report) (m : Res (ℕ × State)) (code kinds payloads : List ℕ) (c k p : ℕ) : Type 0 where
+  pub answer : r ≡ reportOf (answered m)
+  pub words : code ≡ padded (wordsOf m) c
+  pub slotKinds : kinds ≡ padded (kindsOf m) k
+  pub slotPayloads : payloads ≡ padded (payloadsOf m) p
+
+-- ---- evaluating: number, kind, payload
+
+abbrev pub found : ℕ → ℕ → ℕ → Found
+found n k p = record { number = n; kind = k; payload = p }
+
+abbrev pub foundOf : Result → Found
+foundOf (Ops.is v) = found 0 (kindOf v) (payloadOf v)
+foundOf (Ops.fault n) = found n 0 0

@@ -1,0 +1,238 @@
+// The library for C and Rust callers. Each function does what the routine of its name does and gives what that gives, as numbers: the number
+// of the answer is returned, results are left in cells. include/vosemaqe.h is the manual.
+use codegen::compile::Compiled;
+use table::Dest;
+use value::ops::Answer;
+ghost use mathlib.Core.Path.{_≡_};
+ghost use Prim.Native.Nat.{ℕ, min};
+ghost use lib.ListN.{length, replicate};
+ghost use Rattle.faults.specs.Limits.{maxNodes};
+ghost use Rattle.table.specs.Table.{checkOf};
+ghost use Rattle.value.specs.Ops.{resultOf};
+ghost use Rattle.eval.specs.Evaluate.{evaluateOf};
+ghost use Rattle.codegen.specs.Compile.{compileOf};
+ghost use Rattle.machine.specs.Run.{out, ran, runOf, runPartOf};
+ghost use Rattle.vosemaqe.specs.Boundary.{destOf, report, reportOf, Compiles, found, foundOf};
+
+// What compiling leaves: the number, and the cells.
+struct Report {
+    number: u8,
+    words: u64,
+    slots: u64,
+    register: u64,
+    frame: u64,
+}
+
+// What evaluating leaves.
+struct Found {
+    number: u8,
+    kind: u64,
+    payload: u64,
+}
+
+// A destination: 0 is none, r + 1 the register r.
+fn dest_of(dest: u64) -> Dest
+    ensures { λ r. ⌜ r ≡ destOf dest ⌝ }
+{
+    if dest == 0 {
+        return Dest::None;
+    }
+    Dest::Reg(dest - 1)
+}
+
+fn report_of(c: Compiled) -> Report
+    ensures { λ r. ⌜ r ≡ reportOf c ⌝ }
+{
+    match c {
+        Compiled::Done(w, s, r, f) => Report {
+            number: faults::NONE,
+            words: w as u64,
+            slots: s as u64,
+            register: r as u64,
+            frame: f as u64,
+        },
+        Compiled::Refused(n) => Report {
+            number: n,
+            words: 0,
+            slots: 0,
+            register: 0,
+            frame: 0,
+        },
+    }
+}
+
+fn found_of(a: Answer) -> Found
+    ensures { λ r. ⌜ r ≡ foundOf (resultOf a) ⌝ }
+{
+    match a {
+        Answer::Is(v) => Found {
+            number: faults::NONE,
+            kind: value::value::kind_of(v) as u64,
+            payload: value::value::payload_of(v),
+        },
+        Answer::Fault(n) => Found {
+            number: n,
+            kind: 0,
+            payload: 0,
+        },
+    }
+}
+
+// The number of a table with its layout and its destination.
+#[no_mangle]
+pub extern "C" fn vosemaqe_check(nodes: &[u64], params: u64, locals: u64, dest: u64) -> u8
+    ensures { λ r. ⌜ r ≡ checkOf (now (nodes .entry)) params locals (destOf dest) ⌝ }
+{
+    table::check(nodes, params, locals, dest_of(dest))
+}
+
+// Compiles a node table; a jump list with room for every accepted table comes with it.
+#[no_mangle]
+pub extern "C" fn vosemaqe_compile(
+    nodes: &[u64],
+    params: u64,
+    locals: u64,
+    dest: u64,
+    code: &mut [u64],
+    slot_kinds: &mut [u8],
+    slot_payloads: &mut [u64],
+    words: &mut u64,
+    slots: &mut u64,
+    reg: &mut u64,
+    frame: &mut u64,
+) -> u8
+    ensures { λ r. ⌜ Compiles (report r (now (words .exit)) (now (slots .exit)) (now (reg .exit)) (now (frame .exit))) (compileOf (now (nodes .entry)) params locals (destOf dest) maxNodes (length (now (code .entry))) (min (length (now («slot_kinds» .entry))) (length (now («slot_payloads» .entry))))) (now (code .exit)) (now («slot_kinds» .exit)) (now («slot_payloads» .exit)) (length (now (code .entry))) (length (now («slot_kinds» .entry))) (length (now («slot_payloads» .entry))) ⌝ }
+{
+    let c = codegen::compile::compile(
+        nodes,
+        params,
+        locals,
+        dest_of(dest),
+        code,
+        slot_kinds,
+        slot_payloads,
+    );
+    let r = report_of(c);
+    *words = r.words;
+    *slots = r.slots;
+    *reg = r.register;
+    *frame = r.frame;
+    r.number
+}
+
+// The same with a jump list of the caller's, which is left zero.
+#[no_mangle]
+pub extern "C" fn vosemaqe_compile_with(
+    nodes: &[u64],
+    params: u64,
+    locals: u64,
+    dest: u64,
+    code: &mut [u64],
+    slot_kinds: &mut [u8],
+    slot_payloads: &mut [u64],
+    jumps: &mut [u64],
+    words: &mut u64,
+    slots: &mut u64,
+    reg: &mut u64,
+    frame: &mut u64,
+) -> u8
+    ensures { λ r. ⌜ Compiles (report r (now (words .exit)) (now (slots .exit)) (now (reg .exit)) (now (frame .exit))) (compileOf (now (nodes .entry)) params locals (destOf dest) (length (now (jumps .entry))) (length (now (code .entry))) (min (length (now («slot_kinds» .entry))) (length (now («slot_payloads» .entry))))) (now (code .exit)) (now («slot_kinds» .exit)) (now («slot_payloads» .exit)) (length (now (code .entry))) (length (now («slot_kinds» .entry))) (length (now («slot_payloads» .entry))) ⌝ }
+    ensures { λ _. ⌜ now (jumps .exit) ≡ replicate {A = ℕ} (length (now (jumps .entry))) 0 ⌝ }
+{
+    let c = codegen::compile::compile_with(
+        nodes,
+        params,
+        locals,
+        dest_of(dest),
+        code,
+        slot_kinds,
+        slot_payloads,
+        jumps,
+    );
+    let r = report_of(c);
+    *words = r.words;
+    *slots = r.slots;
+    *reg = r.register;
+    *frame = r.frame;
+    r.number
+}
+
+// The value of a node table on its locals.
+#[no_mangle]
+pub extern "C" fn vosemaqe_evaluate(
+    nodes: &[u64],
+    params: u64,
+    locals: u64,
+    kinds: &[u8],
+    payloads: &[u64],
+    kind: &mut u64,
+    payload: &mut u64,
+) -> u8
+    ensures { λ r. ⌜ found r (now (kind .exit)) (now (payload .exit)) ≡ foundOf (evaluateOf (now (nodes .entry)) params locals (now (kinds .entry)) (now (payloads .entry))) ⌝ }
+{
+    let a = eval::evaluate(nodes, params, locals, kinds, payloads);
+    let f = found_of(a);
+    *kind = f.kind;
+    *payload = f.payload;
+    f.number
+}
+
+// The words from a start on, with at most `budget` steps.
+#[no_mangle]
+pub extern "C" fn vosemaqe_run(
+    words: &[u64],
+    start: usize,
+    kinds: &mut [u8],
+    payloads: &mut [u64],
+    slot_kinds: &[u8],
+    slot_payloads: &[u64],
+    budget: u64,
+    steps: &mut u64,
+    position: &mut u64,
+) -> u8
+    ensures { λ r. ⌜ out (ran r (now (steps .exit)) (now (position .exit))) (now (kinds .exit)) (now (payloads .exit)) ≡ runOf (now (words .entry)) (now («slot_kinds» .entry)) (now («slot_payloads» .entry)) budget start (now (kinds .entry)) (now (payloads .entry)) ⌝ }
+{
+    let r = runner::run(
+        words,
+        start,
+        kinds,
+        payloads,
+        slot_kinds,
+        slot_payloads,
+        budget,
+    );
+    *steps = r.steps;
+    *position = r.position as u64;
+    r.number
+}
+
+// The words of a store from an entry to an end. A position counts from the entry.
+#[no_mangle]
+pub extern "C" fn vosemaqe_run_part(
+    store: &[u64],
+    entry: usize,
+    end: usize,
+    kinds: &mut [u8],
+    payloads: &mut [u64],
+    slot_kinds: &[u8],
+    slot_payloads: &[u64],
+    budget: u64,
+    steps: &mut u64,
+    position: &mut u64,
+) -> u8
+    ensures { λ r. ⌜ out (ran r (now (steps .exit)) (now (position .exit))) (now (kinds .exit)) (now (payloads .exit)) ≡ runPartOf (now (store .entry)) entry end (now («slot_kinds» .entry)) (now («slot_payloads» .entry)) budget (now (kinds .entry)) (now (payloads .entry)) ⌝ }
+{
+    let r = runner::run_part(
+        store,
+        entry,
+        end,
+        kinds,
+        payloads,
+        slot_kinds,
+        slot_payloads,
+        budget,
+    );
+    *steps = r.steps;
+    *position = r.position as u64;
+    r.number
+}
