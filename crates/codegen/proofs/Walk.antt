@@ -37,20 +37,26 @@ use Rattle.codegen.proofs.Parts.{kept-jumps}
 -- ---- the measure
 
 abbrev pub level : List ℕ → ℕ → ℕ → ℕ
-level t i rank = 8 * depthAt t i + rank
+level t i rank = 9 * depthAt t i + rank
 
 -- the value of a condition goes by its branch, and the branch of anything else by its value
 abbrev pub byKind : List ℕ → ℕ → ℕ → ℕ → ℕ
 byKind t i x y = cond (leb 18 (kindAt t i)) (cond (leb (kindAt t i) 25) x y) y
 
 abbrev pub valueRank : List ℕ → ℕ → ℕ
-valueRank t i = byKind t i 6 3
+valueRank t i = byKind t i 7 3
 
-abbrev pub branchRank : List ℕ → ℕ → ℕ
-branchRank t i = byKind t i 4 5
+abbrev pub operandRank : List ℕ → ℕ → ℕ
+operandRank t i = suc (valueRank t i)
 
 abbrev pub testRank : List ℕ → ℕ → ℕ
-testRank t i = byKind t i 3 4
+testRank t i = byKind t i 3 5
+
+abbrev pub branchRank : List ℕ → ℕ → ℕ
+branchRank t i = byKind t i 4 6
+
+abbrev pub jumpsRank : List ℕ → ℕ → ℕ
+jumpsRank t i = suc (branchRank t i)
 
 cond-le : (b : Bool) {x y m : ℕ} → x ≤ m → y ≤ m → cond b x y ≤ m
 cond-le true p q = p
@@ -62,36 +68,39 @@ by-kind-le t i x y p q = cond-le (leb 18 (kindAt t i)) (cond-le (leb (kindAt t i
 -- at a child every rank is lower
 module _ {ws : List ℕ} {i t : ℕ} (r : ℕ) (here : level ws i r ≡ t) where
   module _ {base j : ℕ} (child : Child ws base i j) where
-    lower : (q : ℕ) → q ≤ 7 → level ws j q < t
+    lower : (q : ℕ) → q ≤ 8 → level ws j q < t
     lower q h = let f = child .falls in omega arith
 
-    value-lower : level ws j (valueRank ws j) < t
-    value-lower = lower _ (by-kind-le ws j 6 3 (omega arith) (omega arith))
+    operand-lower : level ws j (operandRank ws j) < t
+    operand-lower = let h = by-kind-le ws j 7 3 (omega arith) (omega arith) in lower _ (omega arith)
 
-    branch-lower : level ws j (branchRank ws j) < t
-    branch-lower = lower _ (by-kind-le ws j 4 5 (omega arith) (omega arith))
+    jumps-lower : level ws j (jumpsRank ws j) < t
+    jumps-lower = let h = by-kind-le ws j 4 6 (omega arith) (omega arith) in lower _ (omega arith)
 
   module _ (c k : List ℕ) {n j : ℕ} {st : St} (child : ChildIs ws i n j) (ready : Ready (bufs ws c k) i st) where
-    pub child-value : level ws j (valueRank ws j) < t
-    child-value = value-lower (child .of (ready .base) (ready .node))
+    pub child-operand : level ws j (operandRank ws j) < t
+    child-operand = operand-lower (child .of (ready .base) (ready .node))
+
+    pub child-jumps : level ws j (jumpsRank ws j) < t
+    child-jumps = jumps-lower (child .of (ready .base) (ready .node))
 
     pub child-branch : level ws j (branchRank ws j) < t
-    child-branch = branch-lower (child .of (ready .base) (ready .node))
+    child-branch = let h = child-jumps in omega arith
 
-    pub child-into : level ws j 7 < t
-    child-into = lower (child .of (ready .base) (ready .node)) 7 (omega arith)
+    pub child-into : level ws j 8 < t
+    child-into = lower (child .of (ready .base) (ready .node)) 8 (omega arith)
 
-  pub operand-value : (c k : List ℕ) {j : ℕ} {st : St} {tail : Tail} → Operand ws i tail j → Ready (bufs ws c k) i st → level ws j (valueRank ws j) < t
-  operand-value c k o ready = value-lower (o .of (ready .base) (ready .node))
+  pub operand-operand : (c k : List ℕ) {j : ℕ} {st : St} {tail : Tail} → Operand ws i tail j → Ready (bufs ws c k) i st → level ws j (operandRank ws j) < t
+  operand-operand c k o ready = operand-lower (o .of (ready .base) (ready .node))
 
 -- at the node itself the ranks fall from rule to rule
 cond-of : (t : List ℕ) (i x y : ℕ) → 17 < kindAt t i → kindAt t i ≤ 25 → byKind t i x y ≡ x
 cond-of t i x y h l = rw (le-leb 18 (kindAt t i) (omega arith), le-leb (kindAt t i) 25 l)
 
-both-kinds : (t : List ℕ) (i : ℕ) (P : ℕ → ℕ → ℕ → Type 0) → P 6 4 3 → P 3 5 4 → P (valueRank t i) (branchRank t i) (testRank t i)
+both-kinds : (t : List ℕ) (i : ℕ) (P : ℕ → ℕ → ℕ → Type 0) → P 7 4 3 → P 3 6 5 → P (valueRank t i) (branchRank t i) (testRank t i)
 both-kinds t i P p q = pick (leb 18 (kindAt t i)) (leb (kindAt t i) 25)
   where
-    pick : (a b : Bool) → P (cond a (cond b 6 3) 3) (cond a (cond b 4 5) 5) (cond a (cond b 3 4) 4)
+    pick : (a b : Bool) → P (cond a (cond b 7 3) 3) (cond a (cond b 4 6) 6) (cond a (cond b 3 5) 5)
     pick true true = p
     pick true false = q
     pick false b = q
@@ -103,23 +112,32 @@ module _ (ws : List ℕ) (i t : ℕ) where
   pub branch-over-junction : level ws i (branchRank ws i) ≡ t → level ws i 3 < t
   branch-over-junction = both-kinds ws i (λ v b u. level ws i b ≡ t → level ws i 3 < t) (λ e. omega arith) (λ e. omega arith)
 
+  pub branch-over-not : level ws i (branchRank ws i) ≡ t → level ws i 1 < t
+  branch-over-not e = let h = branch-over-junction e in omega arith
+
   pub branch-over-test : level ws i (branchRank ws i) ≡ t → level ws i (testRank ws i) < t
   branch-over-test = both-kinds ws i (λ v b u. level ws i b ≡ t → level ws i u < t) (λ e. omega arith) (λ e. omega arith)
 
   pub test-over-pair : level ws i (testRank ws i) ≡ t → level ws i 2 < t
   test-over-pair = both-kinds ws i (λ v b u. level ws i u ≡ t → level ws i 2 < t) (λ e. omega arith) (λ e. omega arith)
 
-  pub into-over-value : level ws i 7 ≡ t → level ws i (valueRank ws i) < t
-  into-over-value = both-kinds ws i (λ v b u. level ws i 7 ≡ t → level ws i v < t) (λ e. omega arith) (λ e. omega arith)
+  pub into-over-value : level ws i 8 ≡ t → level ws i (valueRank ws i) < t
+  into-over-value = both-kinds ws i (λ v b u. level ws i 8 ≡ t → level ws i v < t) (λ e. omega arith) (λ e. omega arith)
+
+  pub operand-over-value : level ws i (operandRank ws i) ≡ t → level ws i (valueRank ws i) < t
+  operand-over-value e = omega arith
+
+  pub jumps-over-branch : level ws i (jumpsRank ws i) ≡ t → level ws i (branchRank ws i) < t
+  jumps-over-branch e = omega arith
 
   pub op-over-two : level ws i 2 ≡ t → level ws i 1 < t
   op-over-two e = omega arith
 
-  pub value-over-cond : level ws i (valueRank ws i) ≡ t → 17 < kindAt ws i → kindAt ws i ≤ 25 → level ws i 5 < t
-  value-over-cond e h l = let v : valueRank ws i ≡ 6 = cond-of ws i 6 3 h l in omega arith
+  pub value-over-cond : level ws i (valueRank ws i) ≡ t → 17 < kindAt ws i → kindAt ws i ≤ 25 → level ws i 6 < t
+  value-over-cond e h l = let v : valueRank ws i ≡ 7 = cond-of ws i 7 3 h l in omega arith
 
-  pub cond-over-branch : level ws i 5 ≡ t → 17 < kindAt ws i → kindAt ws i ≤ 25 → level ws i (branchRank ws i) < t
-  cond-over-branch e h l = let v : branchRank ws i ≡ 4 = cond-of ws i 4 5 h l in omega arith
+  pub cond-over-jumps : level ws i 6 ≡ t → 17 < kindAt ws i → kindAt ws i ≤ 25 → level ws i (jumpsRank ws i) < t
+  cond-over-jumps e h l = let v : branchRank ws i ≡ 4 = cond-of ws i 4 6 h l in omega arith
 
 -- neither a comparison nor And nor Or
 not-cond : (t : List ℕ) (i x y : ℕ) → isComparison (kindAt t i) ≡ false → isJunction (kindAt t i) ≡ false → byKind t i x y ≡ y
@@ -136,20 +154,20 @@ not-cond t i x y nc nj =
     ]
 
 -- the node that a test tests: a child, or the node itself, where the ranks fall
-pub tested-value : {ws : List ℕ} {i j t : ℕ} (c k : List ℕ) {st : St} → level ws i (testRank ws i) ≡ t → Tested ws i j → isJunction (kindAt ws i) ≡ false → Ready (bufs ws c k) i st →
-    level ws j (valueRank ws j) < t
-tested-value {ws} {i} {j} {t} c k e tested nj ready =
+pub tested-operand : {ws : List ℕ} {i j t : ℕ} (c k : List ℕ) {st : St} → level ws i (testRank ws i) ≡ t → Tested ws i j → isJunction (kindAt ws i) ≡ false → Ready (bufs ws c k) i st →
+    level ws j (operandRank ws j) < t
+tested-operand {ws} {i} {j} {t} c k e tested nj ready =
     ⊎-elim
-    (λ of. value-lower (testRank ws i) e (of (ready .base) (ready .node)))
+    (λ of. operand-lower (testRank ws i) e (of (ready .base) (ready .node)))
     (λ own.
-    let p : testRank ws i ≡ 4 = not-cond ws i 3 4 (own .1) nj in
-    let q : valueRank ws i ≡ 3 = not-cond ws i 6 3 (own .1) nj in
-    let z : level ws i (valueRank ws i) < t = omega arith in
-    subst (λ (n : ℕ). level ws n (valueRank ws n) < t) (sym (own .0)) z)
+    let p : testRank ws i ≡ 5 = not-cond ws i 3 5 (own .1) nj in
+    let q : valueRank ws i ≡ 3 = not-cond ws i 7 3 (own .1) nj in
+    let z : level ws i (operandRank ws i) < t = omega arith in
+    subst (λ (n : ℕ). level ws n (operandRank ws n) < t) (sym (own .0)) z)
     tested
 
 pub ruleset ranks =
-    (tested-value, child-value, child-branch, child-into, operand-value, value-over-op, branch-over-junction, branch-over-test, test-over-pair, into-over-value, op-over-two, value-over-cond, cond-over-branch)
+    (tested-operand, child-operand, child-jumps, child-branch, child-into, operand-operand, value-over-op, branch-over-junction, branch-over-not, branch-over-test, test-over-pair, into-over-value, operand-over-value, jumps-over-branch, op-over-two, value-over-cond, cond-over-jumps)
 
 -- ---- a callee finds what it asks
 

@@ -45,6 +45,9 @@ IsCondition t i = (17 < kindAt t i) × (kindAt t i ≤ 25)
 abbrev pub IsTernary : List ℕ → ℕ → Type 0
 IsTernary t i = 25 < kindAt t i
 
+abbrev pub IsNot : List ℕ → ℕ → Type 0
+IsNot t i = kindAt t i ≡ 7
+
 -- a branch on it is no branch on others: neither Not, And nor Or
 abbrev pub IsTest : List ℕ → ℕ → Type 0
 IsTest t i = (kindAt t i ≡ 7 → ⊥) × (isJunction (kindAt t i) ≡ false)

@@ -1,5 +1,6 @@
 // The value, branch and move rules. Each says what it emits for the node i of an accepted table; what follows its last call of another rule
-// is done in a routine that calls none, so that little is carried across a call.
+// is done in a routine that calls none, so that little is carried across a call. `gen_operand`, `gen_jumps` and `gen_not` are calls in routines of
+// their own: the compiler takes them in, and what one call needs of the stack serves the next call too (docs/STACK.md).
 use emit::fold::Fold;
 use emit::fold::Test;
 use emit::fold::cmp_branch;
@@ -28,7 +29,7 @@ ghost use lib.ListN.{length, take};
 ghost use Rattle.table.specs.Table.{child1, child2};
 ghost use Rattle.emit.specs.Read.{bufs, stOf, Says, Lists};
 ghost use Rattle.codegen.specs.Gen.{armsD, intoD};
-ghost use Rattle.codegen.specs.Rules.{valueAt, branchAt, Ready, IsOperator, IsGeneral, IsCondition, IsTernary, IsTest, IsPair, IsJunction};
+ghost use Rattle.codegen.specs.Rules.{valueAt, branchAt, Ready, IsOperator, IsGeneral, IsCondition, IsTernary, IsNot, IsTest, IsPair, IsJunction};
 
 // The value of node i. An expression that has to write somewhere writes to dst; a Ref answers its own register.
 pub fn gen_code_inner(
@@ -56,6 +57,21 @@ pub fn gen_code_inner(
     gen_ternary(nodes, code, slots, jumps, i, dst, st)
 }
 
+// An operand: the value of node i, in any register.
+fn gen_operand(
+    nodes: &[u64],
+    code: &mut [u64],
+    slots: &mut [u64],
+    jumps: &mut [u64],
+    i: usize,
+    st: St,
+) -> Ans
+    requires { ⌜ Ready (bufs (now nodes) (now code) (now slots)) i st ⌝ }
+    ensures { λ r. ⌜ Says (bufs (now (nodes .entry)) (now (code .exit)) (now (slots .exit))) r (valueAt (now (nodes .entry)) i Dst.Any (length (now (jumps .entry))) (stOf (bufs (now (nodes .entry)) (now (code .entry)) (now (slots .entry))) st)) ⌝ }
+{
+    gen_code_inner(nodes, code, slots, jumps, i, Dst::Any, st)
+}
+
 // An operator: its one operand and the instruction that takes in the rest, or, if no immediate fits, the general form.
 fn gen_bin_op(
     nodes: &[u64],
@@ -74,7 +90,7 @@ fn gen_bin_op(
         return gen_two(nodes, code, slots, jumps, i, dst, st);
     };
     let j = operand_of(nodes, i, tail);
-    let x = gen_code_inner(nodes, code, slots, jumps, j, Dst::Any, st);
+    let x = gen_operand(nodes, code, slots, jumps, j, st);
     put_tail(code, tail, dst, st.next, x)
 }
 
@@ -91,27 +107,11 @@ fn gen_two(
     requires { ⌜ (Ready (bufs (now nodes) (now code) (now slots)) i st) × (IsGeneral (now nodes) i) ⌝ }
     ensures { λ r. ⌜ Says (bufs (now (nodes .entry)) (now (code .exit)) (now (slots .exit))) r (valueAt (now (nodes .entry)) i dst (length (now (jumps .entry))) (stOf (bufs (now (nodes .entry)) (now (code .entry)) (now (slots .entry))) st)) ⌝ }
 {
-    let x = gen_code_inner(
-        nodes,
-        code,
-        slots,
-        jumps,
-        table::child_2(nodes, i),
-        Dst::Any,
-        st,
-    );
+    let x = gen_operand(nodes, code, slots, jumps, table::child_2(nodes, i), st);
     let Ans::Got(a, s) = x else {
         return x;
     };
-    let y = gen_code_inner(
-        nodes,
-        code,
-        slots,
-        jumps,
-        table::child_1(nodes, i),
-        Dst::Any,
-        s,
-    );
+    let y = gen_operand(nodes, code, slots, jumps, table::child_1(nodes, i), s);
     put_three(code, three_of(table::kind_at(nodes, i)), a, dst, st.next, y)
 }
 
@@ -132,7 +132,7 @@ fn gen_cond_value(
     let Ans::Got(d, s) = x else {
         return x;
     };
-    let y = gen_branch(nodes, code, slots, jumps, i, true, s);
+    let y = gen_jumps(nodes, code, slots, jumps, i, true, s);
     match y {
         Jumps::Are(n, t) => gen_bool(code, &jumps[..n], d, t),
         Jumps::No(f) => Ans::No(f),
@@ -156,7 +156,7 @@ fn gen_ternary(
     let Ans::Got(d, s) = x else {
         return x;
     };
-    let y = gen_branch(
+    let y = gen_jumps(
         nodes,
         code,
         slots,
@@ -238,20 +238,52 @@ fn gen_branch(
 {
     let k = table::kind_at(nodes, i);
     if k == table::NOT {
-        return gen_branch(
-            nodes,
-            code,
-            slots,
-            jumps,
-            table::child_1(nodes, i),
-            !sense,
-            st,
-        );
+        return gen_not(nodes, code, slots, jumps, i, sense, st);
     }
     if is_junction(k) {
         return gen_junction(nodes, code, slots, jumps, i, k == table::OR, sense, st);
     }
     gen_test(nodes, code, slots, jumps, i, sense, st)
+}
+
+// The jumps of a condition, of a test, or of a side of And or Or: those of node i.
+fn gen_jumps(
+    nodes: &[u64],
+    code: &mut [u64],
+    slots: &mut [u64],
+    jumps: &mut [u64],
+    i: usize,
+    sense: bool,
+    st: St,
+) -> Jumps
+    requires { ⌜ Ready (bufs (now nodes) (now code) (now slots)) i st ⌝ }
+    ensures { λ r. ⌜ Lists (bufs (now (nodes .entry)) (now (code .exit)) (now (slots .exit))) (now (jumps .exit)) r (branchAt (now (nodes .entry)) i sense (length (now (jumps .entry))) (stOf (bufs (now (nodes .entry)) (now (code .entry)) (now (slots .entry))) st)) ⌝ }
+{
+    gen_branch(nodes, code, slots, jumps, i, sense, st)
+}
+
+// Not: its operand's jumps, with the sense turned round.
+fn gen_not(
+    nodes: &[u64],
+    code: &mut [u64],
+    slots: &mut [u64],
+    jumps: &mut [u64],
+    i: usize,
+    sense: bool,
+    st: St,
+) -> Jumps
+    requires { ⌜ (Ready (bufs (now nodes) (now code) (now slots)) i st) × (IsNot (now nodes) i) ⌝ }
+    ensures { λ r. ⌜ Lists (bufs (now (nodes .entry)) (now (code .exit)) (now (slots .exit))) (now (jumps .exit)) r (branchAt (now (nodes .entry)) i sense (length (now (jumps .entry))) (stOf (bufs (now (nodes .entry)) (now (code .entry)) (now (slots .entry))) st)) ⌝ }
+{
+    gen_branch(
+        nodes,
+        code,
+        slots,
+        jumps,
+        table::child_1(nodes, i),
+        !sense,
+        st,
+    )
 }
 
 // A comparison, or a value that is tested as a boolean. A comparison takes in a literal; if it has none, both sides are in registers.
@@ -271,7 +303,7 @@ fn gen_test(
     let Test::One(j, how) = t else {
         return gen_pair(nodes, code, slots, jumps, i, sense, st);
     };
-    let x = gen_code_inner(nodes, code, slots, jumps, j, Dst::Any, st);
+    let x = gen_operand(nodes, code, slots, jumps, j, st);
     jump_one(code, jumps, how, st.next, x)
 }
 
@@ -288,26 +320,10 @@ fn gen_pair(
     requires { ⌜ (Ready (bufs (now nodes) (now code) (now slots)) i st) × (IsPair (now nodes) i sense) ⌝ }
     ensures { λ r. ⌜ Lists (bufs (now (nodes .entry)) (now (code .exit)) (now (slots .exit))) (now (jumps .exit)) r (branchAt (now (nodes .entry)) i sense (length (now (jumps .entry))) (stOf (bufs (now (nodes .entry)) (now (code .entry)) (now (slots .entry))) st)) ⌝ }
 {
-    let x = gen_code_inner(
-        nodes,
-        code,
-        slots,
-        jumps,
-        table::child_2(nodes, i),
-        Dst::Any,
-        st,
-    );
+    let x = gen_operand(nodes, code, slots, jumps, table::child_2(nodes, i), st);
     match x {
         Ans::Got(a, s) => {
-            let y = gen_code_inner(
-                nodes,
-                code,
-                slots,
-                jumps,
-                table::child_1(nodes, i),
-                Dst::Any,
-                s,
-            );
+            let y = gen_operand(nodes, code, slots, jumps, table::child_1(nodes, i), s);
             jump_pair(
                 code,
                 jumps,
@@ -335,11 +351,11 @@ fn gen_junction(
     requires { ⌜ (Ready (bufs (now nodes) (now code) (now slots)) i st) × (IsJunction (now nodes) i by) ⌝ }
     ensures { λ r. ⌜ Lists (bufs (now (nodes .entry)) (now (code .exit)) (now (slots .exit))) (now (jumps .exit)) r (branchAt (now (nodes .entry)) i sense (length (now (jumps .entry))) (stOf (bufs (now (nodes .entry)) (now (code .entry)) (now (slots .entry))) st)) ⌝ }
 {
-    let x = gen_branch(nodes, code, slots, jumps, table::child_2(nodes, i), by, st);
+    let x = gen_jumps(nodes, code, slots, jumps, table::child_2(nodes, i), by, st);
     let Jumps::Are(n, s) = x else {
         return x;
     };
-    let y = gen_branch(
+    let y = gen_jumps(
         nodes,
         code,
         slots,

@@ -2,18 +2,18 @@
 use Prim.Native.Nat.{ℕ}
 use Rattle.codegen.proofs.Parts.{listed}
 use Rattle.codegen.proofs.Values.{ternary-stop, ternary-refused, ternary-value}
-use Rattle.codegen.proofs.Walk.{rules, child-branch, op-over-two, ready-child, ready-dest, ready-jumps}
+use Rattle.codegen.proofs.Walk.{rules, child-jumps, op-over-two, ready-child, ready-dest, ready-jumps}
 use Rattle.codegen.proofs.rules.gen_arms.Reads as gen-arms
-use Rattle.codegen.proofs.rules.gen_branch.Reads as gen-branch
+use Rattle.codegen.proofs.rules.gen_jumps.Reads as gen-jumps
 use Rattle.codegen.proofs.rules.gen_ternary.Reads as gen-ternary
 use Rattle.emit.proofs.state.dest.Reads as dest-reads
 use Rattle.table.proofs.child_3.Reads as child-3-reads
-use Rattle.codegen.proofs.rules.+gen_arms+gen_bin_op+gen_branch+gen_code_inner+gen_cond_value+gen_into+gen_junction+gen_pair+gen_ternary+gen_test+gen_two.Lts-gen_ternary as lts
-use Rattle.codegen.proofs.rules.+gen_arms+gen_bin_op+gen_branch+gen_code_inner+gen_cond_value+gen_into+gen_junction+gen_pair+gen_ternary+gen_test+gen_two.Proof.Measures.{gen-arms-below, gen-branch-below, gen-ternary-at}
+use Rattle.codegen.proofs.rules.+gen_arms+gen_bin_op+gen_branch+gen_code_inner+gen_cond_value+gen_into+gen_jumps+gen_junction+gen_not+gen_operand+gen_pair+gen_ternary+gen_test+gen_two.Lts-gen_ternary as lts
+use Rattle.codegen.proofs.rules.+gen_arms+gen_bin_op+gen_branch+gen_code_inner+gen_cond_value+gen_into+gen_jumps+gen_junction+gen_not+gen_operand+gen_pair+gen_ternary+gen_test+gen_two.Proof.Measures.{gen-arms-below, gen-jumps-below, gen-ternary-at}
 
 module _ (t : ℕ) where
   abbrev cl : lts.Claims
-  cl = (dest-reads.Asked, dest-reads.Learnt, child-3-reads.Asked, child-3-reads.Learnt, gen-branch-below t, gen-branch.Post, gen-arms-below t, gen-arms.Post)
+  cl = (dest-reads.Asked, dest-reads.Learnt, child-3-reads.Asked, child-3-reads.Learnt, gen-jumps-below t, gen-jumps.Post, gen-arms-below t, gen-arms.Post)
 
   dest-requires : lts.Need-dest-requires cl (gen-ternary-at t) gen-ternary.Post
   dest-requires c κs = search rules
@@ -26,18 +26,19 @@ module _ (t : ℕ) where
 
   returns : lts.Need-returns cl (gen-ternary-at t) gen-ternary.Post
   returns c =
-      let c1 = c .before .before .before .before .before .before .before in
-      ternary-stop (c1 .pre .1 .0) _ _ (c1 .pre .1 .1) (c .before .before .dest .ensures) (c .enum-told .given .1)
+      let c1 = c .before .before in
+      let c2 = c1 .before .before .before .before .before in
+      ternary-stop (c2 .pre .1 .0) _ _ (c2 .pre .1 .1) (c1 .dest .ensures) (c .enum-told .given .1)
 
   child-3-requires : lts.Need-child-3-requires cl (gen-ternary-at t) gen-ternary.Post
   child-3-requires c κs = search rules
 
-  gen-branch-requires : lts.Need-gen-branch-requires cl (gen-ternary-at t) gen-ternary.Post
-  gen-branch-requires c κs =
+  gen-jumps-requires : lts.Need-gen-jumps-requires cl (gen-ternary-at t) gen-ternary.Post
+  gen-jumps-requires c κs =
       let c1 = c .before .before .before .before .before in
       let c2 = c1 .before .before in
       let c3 = c2 .before .before .before .before .before in
-      (child-branch 2 (c3 .pre .0) _ _ (c .child-3 .ensures) (c3 .pre .1 .0), ready-child (ready-dest (c3 .pre .1 .0) _ (c2 .dest .ensures) (c1 .x .given .1)) (c .child-3 .ensures))
+      (child-jumps 2 (c3 .pre .0) _ _ (c .child-3 .ensures) (c3 .pre .1 .0), ready-child (ready-dest (c3 .pre .1 .0) _ (c2 .dest .ensures) (c1 .x .given .1)) (c .child-3 .ensures))
 
   enum-known-y : lts.Need-enum-known-y cl (gen-ternary-at t) gen-ternary.Post
   enum-known-y c = search rules
@@ -47,7 +48,7 @@ module _ (t : ℕ) where
       let c1 = c .before .before .before .before in
       let c2 = c1 .before .before .before .before .before .before .before .before in
       let c3 = c2 .before .before .before .before .before .before .before .before .before .before .before .before .before in
-      (op-over-two (c3 .args .nodes .now) (c3 .args .i) t (c3 .pre .0), (ready-jumps (c3 .pre .1 .0) (c1 .y .given .1) (c2 .gen-branch .ensures), c3 .pre .1 .1, listed (c1 .y .given .1) (c2 .gen-branch .ensures)))
+      (op-over-two (c3 .args .nodes .now) (c3 .args .i) t (c3 .pre .0), (ready-jumps (c3 .pre .1 .0) (c1 .y .given .1) (c2 .gen-jumps .ensures), c3 .pre .1 .1, listed (c1 .y .given .1) (c2 .gen-jumps .ensures)))
 
   enum-known-y-2 : lts.Need-enum-known-y-2 cl (gen-ternary-at t) gen-ternary.Post
   enum-known-y-2 c = search rules
@@ -70,7 +71,7 @@ module _ (t : ℕ) where
       let c5 = c4 .before .before .before .before .before in
       let c6 = c5 .before .before in
       let c7 = c6 .before .before .before .before .before in
-      ternary-value (c7 .pre .1 .0) _ _ (c7 .pre .1 .1) (c6 .dest .ensures) (c5 .x .given .1) (c4 .child-3 .ensures) (c3 .gen-branch .ensures) (c2 .y .given .1) (c3 .gen-branch .kept .1 .1 .1 .0) (c1 .gen-arms .ensures)
+      ternary-value (c7 .pre .1 .0) _ _ (c7 .pre .1 .1) (c6 .dest .ensures) (c5 .x .given .1) (c4 .child-3 .ensures) (c3 .gen-jumps .ensures) (c2 .y .given .1) (c3 .gen-jumps .kept .1 .1 .1 .0) (c1 .gen-arms .ensures)
 
   same-length-4 : lts.Need-same-length-4 cl (gen-ternary-at t) gen-ternary.Post
   same-length-4 c = search rules
@@ -83,12 +84,13 @@ module _ (t : ℕ) where
 
   returns-3 : lts.Need-returns-3 cl (gen-ternary-at t) gen-ternary.Post
   returns-3 c =
-      let c1 = c .before .before .before .before .before .before .before .before .before in
-      let c2 = c1 .before in
-      let c3 = c2 .before .before .before .before .before in
-      let c4 = c3 .before .before in
-      let c5 = c4 .before .before .before .before .before in
-      ternary-refused (c5 .pre .1 .0) _ _ (c5 .pre .1 .1) (c4 .dest .ensures) (c3 .x .given .1) (c2 .child-3 .ensures) (c1 .gen-branch .ensures) (c .before .y2 .given .1)
+      let c1 = c .before in
+      let c2 = c1 .before .before .before .before .before .before .before .before in
+      let c3 = c2 .before in
+      let c4 = c3 .before .before .before .before .before in
+      let c5 = c4 .before .before in
+      let c6 = c5 .before .before .before .before .before in
+      ternary-refused (c6 .pre .1 .0) _ _ (c6 .pre .1 .1) (c5 .dest .ensures) (c4 .x .given .1) (c3 .child-3 .ensures) (c2 .gen-jumps .ensures) (c1 .y2 .given .1)
 
   pub gen-ternary-holds : (M : Type 1) → lts.Closed cl (gen-ternary-at t) gen-ternary.Post M
   gen-ternary-holds M =
@@ -98,7 +100,7 @@ module _ (t : ℕ) where
       enum-told
       returns
       child-3-requires
-      gen-branch-requires
+      gen-jumps-requires
       enum-known-y
       gen-arms-requires
       enum-known-y-2

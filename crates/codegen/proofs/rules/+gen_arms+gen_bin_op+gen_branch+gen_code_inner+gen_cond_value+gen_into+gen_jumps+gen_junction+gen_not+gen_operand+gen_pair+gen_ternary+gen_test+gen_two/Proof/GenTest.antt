@@ -1,18 +1,18 @@
 -- `gen_test`: The rule meets its contract. Assumes nothing.
 use Prim.Native.Nat.{ℕ}
 use Rattle.codegen.proofs.Branches.{one-branch}
-use Rattle.codegen.proofs.Walk.{rules, picked-both, picked-one, pair-kind, test-over-pair, tested-value, ready-tested}
-use Rattle.codegen.proofs.rules.gen_code_inner.Reads as gen-code-inner
+use Rattle.codegen.proofs.Walk.{rules, picked-both, picked-one, pair-kind, test-over-pair, tested-operand, ready-tested}
+use Rattle.codegen.proofs.rules.gen_operand.Reads as gen-operand
 use Rattle.codegen.proofs.rules.gen_pair.Reads as gen-pair
 use Rattle.codegen.proofs.rules.gen_test.Reads as gen-test
 use Rattle.emit.proofs.fold.test_of.Reads as test-of-reads
 use Rattle.emit.proofs.jump.jump_one.Reads as jump-one-reads
-use Rattle.codegen.proofs.rules.+gen_arms+gen_bin_op+gen_branch+gen_code_inner+gen_cond_value+gen_into+gen_junction+gen_pair+gen_ternary+gen_test+gen_two.Lts-gen_test as lts
-use Rattle.codegen.proofs.rules.+gen_arms+gen_bin_op+gen_branch+gen_code_inner+gen_cond_value+gen_into+gen_junction+gen_pair+gen_ternary+gen_test+gen_two.Proof.Measures.{gen-code-inner-below, gen-pair-below, gen-test-at}
+use Rattle.codegen.proofs.rules.+gen_arms+gen_bin_op+gen_branch+gen_code_inner+gen_cond_value+gen_into+gen_jumps+gen_junction+gen_not+gen_operand+gen_pair+gen_ternary+gen_test+gen_two.Lts-gen_test as lts
+use Rattle.codegen.proofs.rules.+gen_arms+gen_bin_op+gen_branch+gen_code_inner+gen_cond_value+gen_into+gen_jumps+gen_junction+gen_not+gen_operand+gen_pair+gen_ternary+gen_test+gen_two.Proof.Measures.{gen-operand-below, gen-pair-below, gen-test-at}
 
 module _ (t : ℕ) where
   abbrev cl : lts.Claims
-  cl = (test-of-reads.Asked, test-of-reads.Learnt, gen-pair-below t, gen-pair.Post, gen-code-inner-below t, gen-code-inner.Post, jump-one-reads.Asked, jump-one-reads.Learnt)
+  cl = (test-of-reads.Asked, test-of-reads.Learnt, gen-pair-below t, gen-pair.Post, gen-operand-below t, gen-operand.Post, jump-one-reads.Asked, jump-one-reads.Learnt)
 
   test-of-requires : lts.Need-test-of-requires cl (gen-test-at t) gen-test.Post
   test-of-requires c κs = search rules
@@ -42,12 +42,12 @@ module _ (t : ℕ) where
   returns : lts.Need-returns cl (gen-test-at t) gen-test.Post
   returns c = search rules
 
-  gen-code-inner-requires : lts.Need-gen-code-inner-requires cl (gen-test-at t) gen-test.Post
-  gen-code-inner-requires c κs =
+  gen-operand-requires : lts.Need-gen-operand-requires cl (gen-test-at t) gen-test.Post
+  gen-operand-requires c κs =
       let c1 = c .before .before .before .before in
       let c2 = c1 .before .before in
       let c3 = c2 .before .before .before .before .before in
-      let p = picked-one _ _ _ (c1 .t .given .1) (c2 .test-of .ensures) .1 in (tested-value _ _ (c3 .pre .0) p (c3 .pre .1 .1 .1) (c3 .pre .1 .0), ready-tested (c3 .pre .1 .0) p)
+      let p = picked-one _ _ _ (c1 .t .given .1) (c2 .test-of .ensures) .1 in (tested-operand _ _ (c3 .pre .0) p (c3 .pre .1 .1 .1) (c3 .pre .1 .0), ready-tested (c3 .pre .1 .0) p)
 
   jump-one-requires : lts.Need-jump-one-requires cl (gen-test-at t) gen-test.Post
   jump-one-requires c κs = search rules
@@ -68,7 +68,7 @@ module _ (t : ℕ) where
       let c3 = c2 .before .before .before .before .before in
       let c4 = c3 .before .before in
       let c5 = c4 .before .before .before .before .before in
-      one-branch (c5 .pre .1 .0) _ _ (c5 .pre .1 .1) _ (picked-one _ _ _ (c3 .t .given .1) (c4 .test-of .ensures) .0) (c2 .gen-code-inner .ensures) (c2 .gen-code-inner .kept .1 .1 .1 .0) (c1 .jump-one .ensures)
+      one-branch (c5 .pre .1 .0) _ _ (c5 .pre .1 .1) _ (picked-one _ _ _ (c3 .t .given .1) (c4 .test-of .ensures) .0) (c2 .gen-operand .ensures) (c2 .gen-operand .kept .1 .1 .1 .0) (c1 .jump-one .ensures)
 
   pub gen-test-holds : (M : Type 1) → lts.Closed cl (gen-test-at t) gen-test.Post M
   gen-test-holds M =
@@ -81,7 +81,7 @@ module _ (t : ℕ) where
       same-length-2
       same-length-3
       returns
-      gen-code-inner-requires
+      gen-operand-requires
       jump-one-requires
       same-length-4
       same-length-5

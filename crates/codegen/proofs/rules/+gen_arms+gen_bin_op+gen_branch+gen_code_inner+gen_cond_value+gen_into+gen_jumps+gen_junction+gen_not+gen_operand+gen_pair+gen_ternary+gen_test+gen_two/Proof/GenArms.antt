@@ -12,8 +12,8 @@ use Rattle.emit.proofs.jump.settle.Reads as settle-reads
 use Rattle.emit.proofs.jump.turn.Reads as turn-reads
 use Rattle.table.proofs.child_1.Reads as child-1-reads
 use Rattle.table.proofs.child_2.Reads as child-2-reads
-use Rattle.codegen.proofs.rules.+gen_arms+gen_bin_op+gen_branch+gen_code_inner+gen_cond_value+gen_into+gen_junction+gen_pair+gen_ternary+gen_test+gen_two.Lts-gen_arms as lts
-use Rattle.codegen.proofs.rules.+gen_arms+gen_bin_op+gen_branch+gen_code_inner+gen_cond_value+gen_into+gen_junction+gen_pair+gen_ternary+gen_test+gen_two.Proof.Measures.{gen-arms-at, gen-into-below}
+use Rattle.codegen.proofs.rules.+gen_arms+gen_bin_op+gen_branch+gen_code_inner+gen_cond_value+gen_into+gen_jumps+gen_junction+gen_not+gen_operand+gen_pair+gen_ternary+gen_test+gen_two.Lts-gen_arms as lts
+use Rattle.codegen.proofs.rules.+gen_arms+gen_bin_op+gen_branch+gen_code_inner+gen_cond_value+gen_into+gen_jumps+gen_junction+gen_not+gen_operand+gen_pair+gen_ternary+gen_test+gen_two.Proof.Measures.{gen-arms-at, gen-into-below}
 
 module _ (t : ℕ) where
   abbrev cl : lts.Claims
@@ -69,10 +69,7 @@ module _ (t : ℕ) where
       prefix _ _ (front-in (c2 .args .n) (c2 .args .jumps .now) (c1 .gen-into .last .1 .1 .1 .0) (c2 .pre .1 .2))
 
   turn-requires : lts.Need-turn-requires cl (gen-arms-at t) gen-arms.Post
-  turn-requires c κs =
-      let c1 = c .before .before .before in
-      let c2 = c1 .before .before .before .before .before .before .before .before in
-      kept (c1 .x .given .1) (c2 .gen-into .ensures) .words
+  turn-requires c κs = kept (c .before .before .before .x .given .1) (c .before .before .before .before .before .before .before .before .before .before .before .gen-into .ensures) .words
 
   enum-known-y : lts.Need-enum-known-y cl (gen-arms-at t) gen-arms.Post
   enum-known-y c = search rules
@@ -113,16 +110,15 @@ module _ (t : ℕ) where
       (child-into 1 (c5 .pre .0) _ _ (c .child-1 .ensures) (c5 .pre .1 .0), ready-after (c5 .pre .1 .0) (c .child-1 .ensures) (c1 .y .given .1) (c2 .turn .ensures _ _ (kept (c3 .x .given .1) (c4 .gen-into .ensures))))
 
   settle-requires : lts.Need-settle-requires cl (gen-arms-at t) gen-arms.Post
-  settle-requires c κs =
-      let c1 = c .before .before .before .before .before .before .before in
-      counted _ (c1 .gen-into2 .ensures)
+  settle-requires c κs = counted _ (c .before .before .before .before .before .before .before .gen-into2 .ensures)
 
   same-length-7 : lts.Need-same-length-7 cl (gen-arms-at t) gen-arms.Post
   same-length-7 c =
-      let c1 = c .before .before .before .before .before .before .before .before .before .before in
-      let c2 = c1 .before .before .before .before .before .before .before .before .before .before in
-      let c3 = c2 .before .before .before .before .before .before .before .before .before .before .before .before in
-      c .before .before .settle .kept .0 ∙ c1 .gen-into2 .kept .1 .0 ∙ c2 .turn .kept .0 ∙ c3 .gen-into .kept .1 .0
+      let c1 = c .before .before in
+      let c2 = c1 .before .before .before .before .before .before .before .before in
+      let c3 = c2 .before .before .before .before .before .before .before .before .before .before in
+      let c4 = c3 .before .before .before .before .before .before .before .before .before .before .before .before in
+      c1 .settle .kept .0 ∙ c2 .gen-into2 .kept .1 .0 ∙ c3 .turn .kept .0 ∙ c4 .gen-into .kept .1 .0
 
   same-length-8 : lts.Need-same-length-8 cl (gen-arms-at t) gen-arms.Post
   same-length-8 c =
@@ -139,15 +135,16 @@ module _ (t : ℕ) where
 
   returns-3 : lts.Need-returns-3 cl (gen-arms-at t) gen-arms.Post
   returns-3 c =
-      let c1 = c .before .before .before .before .before .before .before .before .before .before in
-      let c2 = c1 .before in
-      let c3 = c2 .before .before .before .before .before in
-      let c4 = c3 .before .before .before .before in
+      let c1 = c .before .before in
+      let c2 = c1 .before .before .before .before .before .before .before .before in
+      let c3 = c2 .before in
+      let c4 = c3 .before .before .before .before .before in
       let c5 = c4 .before .before .before .before in
-      let c6 = c5 .before .before .before .before .before .before .before .before in
-      let c7 = c6 .before in
-      let c8 = c7 .before .before .before .before .before .before .before .before in
-      arms-value _ _ _ _ (c7 .child-2 .ensures) (rest-room (c8 .args .n) (c8 .args .jumps .now) (c8 .pre .1 .2) refl) (c6 .gen-into .ensures) (c5 .x .given .1) (front-kept (c8 .args .n) (c8 .args .jumps .now) (c6 .gen-into .last .1 .1 .1 .0) (c8 .pre .1 .2)) (c4 .turn .ensures) (c3 .y .given .1) (c2 .child-1 .ensures) (restored-length (c8 .args .n) (c8 .args .jumps .now) (c6 .gen-into .last .1 .1 .1 .0) (c8 .pre .1 .2) (c6 .gen-into .kept .1 .1 .1 .0)) (c1 .gen-into2 .ensures) (c .before .before .settle .ensures)
+      let c6 = c5 .before .before .before .before in
+      let c7 = c6 .before .before .before .before .before .before .before .before in
+      let c8 = c7 .before in
+      let c9 = c8 .before .before .before .before .before .before .before .before in
+      arms-value _ _ _ _ (c8 .child-2 .ensures) (rest-room (c9 .args .n) (c9 .args .jumps .now) (c9 .pre .1 .2) refl) (c7 .gen-into .ensures) (c6 .x .given .1) (front-kept (c9 .args .n) (c9 .args .jumps .now) (c7 .gen-into .last .1 .1 .1 .0) (c9 .pre .1 .2)) (c5 .turn .ensures) (c4 .y .given .1) (c3 .child-1 .ensures) (restored-length (c9 .args .n) (c9 .args .jumps .now) (c7 .gen-into .last .1 .1 .1 .0) (c9 .pre .1 .2) (c7 .gen-into .kept .1 .1 .1 .0)) (c2 .gen-into2 .ensures) (c1 .settle .ensures)
 
   pub gen-arms-holds : (M : Type 1) → lts.Closed cl (gen-arms-at t) gen-arms.Post M
   gen-arms-holds M =

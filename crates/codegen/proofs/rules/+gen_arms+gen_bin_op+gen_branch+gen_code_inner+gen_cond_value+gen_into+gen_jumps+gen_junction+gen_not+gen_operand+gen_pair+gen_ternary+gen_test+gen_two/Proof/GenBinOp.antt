@@ -4,17 +4,17 @@ use mathlib.Core.Path.{sym, _∙_}
 use Rattle.codegen.proofs.Values.{fold-value}
 use Rattle.codegen.proofs.Walk.{rules, operator, over-unary, op-over-two}
 use Rattle.codegen.proofs.rules.gen_bin_op.Reads as gen-bin-op
-use Rattle.codegen.proofs.rules.gen_code_inner.Reads as gen-code-inner
+use Rattle.codegen.proofs.rules.gen_operand.Reads as gen-operand
 use Rattle.codegen.proofs.rules.gen_two.Reads as gen-two
 use Rattle.emit.proofs.fold.fold_of.Reads as fold-of-reads
 use Rattle.emit.proofs.fold.operand_of.Reads as operand-of-reads
 use Rattle.emit.proofs.word.put_tail.Reads as put-tail-reads
-use Rattle.codegen.proofs.rules.+gen_arms+gen_bin_op+gen_branch+gen_code_inner+gen_cond_value+gen_into+gen_junction+gen_pair+gen_ternary+gen_test+gen_two.Lts-gen_bin_op as lts
-use Rattle.codegen.proofs.rules.+gen_arms+gen_bin_op+gen_branch+gen_code_inner+gen_cond_value+gen_into+gen_junction+gen_pair+gen_ternary+gen_test+gen_two.Proof.Measures.{gen-bin-op-at, gen-code-inner-below, gen-two-below}
+use Rattle.codegen.proofs.rules.+gen_arms+gen_bin_op+gen_branch+gen_code_inner+gen_cond_value+gen_into+gen_jumps+gen_junction+gen_not+gen_operand+gen_pair+gen_ternary+gen_test+gen_two.Lts-gen_bin_op as lts
+use Rattle.codegen.proofs.rules.+gen_arms+gen_bin_op+gen_branch+gen_code_inner+gen_cond_value+gen_into+gen_jumps+gen_junction+gen_not+gen_operand+gen_pair+gen_ternary+gen_test+gen_two.Proof.Measures.{gen-bin-op-at, gen-operand-below, gen-two-below}
 
 module _ (t : ℕ) where
   abbrev cl : lts.Claims
-  cl = (fold-of-reads.Asked, fold-of-reads.Learnt, gen-two-below t, gen-two.Post, operand-of-reads.Asked, operand-of-reads.Learnt, gen-code-inner-below t, gen-code-inner.Post, put-tail-reads.Asked, put-tail-reads.Learnt)
+  cl = (fold-of-reads.Asked, fold-of-reads.Learnt, gen-two-below t, gen-two.Post, operand-of-reads.Asked, operand-of-reads.Learnt, gen-operand-below t, gen-operand.Post, put-tail-reads.Asked, put-tail-reads.Learnt)
 
   fold-of-requires : lts.Need-fold-of-requires cl (gen-bin-op-at t) gen-bin-op.Post
   fold-of-requires c κs = search rules
@@ -46,12 +46,13 @@ module _ (t : ℕ) where
 
   operand-of-requires : lts.Need-operand-of-requires cl (gen-bin-op-at t) gen-bin-op.Post
   operand-of-requires c κs =
-      let c1 = c .before .before .before in
-      let c2 = c1 .before .before .before .before .before in
-      (operator (c2 .pre .1 .0) (c2 .pre .1 .1 .0) (c2 .pre .1 .1 .1), sym (c1 .fold-of .ensures) ∙ c .before .f .given .1)
+      let c1 = c .before in
+      let c2 = c1 .before .before in
+      let c3 = c2 .before .before .before .before .before in
+      (operator (c3 .pre .1 .0) (c3 .pre .1 .1 .0) (c3 .pre .1 .1 .1), sym (c2 .fold-of .ensures) ∙ c1 .f .given .1)
 
-  gen-code-inner-requires : lts.Need-gen-code-inner-requires cl (gen-bin-op-at t) gen-bin-op.Post
-  gen-code-inner-requires c κs = search rules
+  gen-operand-requires : lts.Need-gen-operand-requires cl (gen-bin-op-at t) gen-bin-op.Post
+  gen-operand-requires c κs = search rules
 
   put-tail-requires : lts.Need-put-tail-requires cl (gen-bin-op-at t) gen-bin-op.Post
   put-tail-requires c κs = search rules
@@ -67,12 +68,13 @@ module _ (t : ℕ) where
 
   returns-2 : lts.Need-returns-2 cl (gen-bin-op-at t) gen-bin-op.Post
   returns-2 c =
-      let c1 = c .before .before .before .before .before .before .before .before .before .before in
-      let c2 = c1 .before .before .before .before in
-      let c3 = c2 .before .before in
+      let c1 = c .before .before in
+      let c2 = c1 .before .before .before .before .before .before .before .before in
+      let c3 = c2 .before .before .before .before in
       let c4 = c3 .before .before in
-      let c5 = c4 .before .before .before .before .before in
-      fold-value (c5 .pre .1 .0) _ _ (c2 .operand-of .ensures) (sym (c4 .fold-of .ensures) ∙ c3 .f .given .1) (c1 .gen-code-inner .ensures) (c .before .before .put-tail .ensures)
+      let c5 = c4 .before .before in
+      let c6 = c5 .before .before .before .before .before in
+      fold-value (c6 .pre .1 .0) _ _ (c3 .operand-of .ensures) (sym (c5 .fold-of .ensures) ∙ c4 .f .given .1) (c2 .gen-operand .ensures) (c1 .put-tail .ensures)
 
   pub gen-bin-op-holds : (M : Type 1) → lts.Closed cl (gen-bin-op-at t) gen-bin-op.Post M
   gen-bin-op-holds M =
@@ -86,7 +88,7 @@ module _ (t : ℕ) where
       same-length-3
       returns
       operand-of-requires
-      gen-code-inner-requires
+      gen-operand-requires
       put-tail-requires
       same-length-4
       same-length-5

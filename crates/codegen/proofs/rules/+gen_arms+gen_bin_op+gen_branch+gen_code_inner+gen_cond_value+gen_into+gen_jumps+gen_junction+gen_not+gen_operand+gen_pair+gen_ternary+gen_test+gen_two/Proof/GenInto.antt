@@ -5,8 +5,8 @@ use Rattle.codegen.proofs.Walk.{rules}
 use Rattle.codegen.proofs.rules.gen_code_inner.Reads as gen-code-inner
 use Rattle.codegen.proofs.rules.gen_into.Reads as gen-into
 use Rattle.emit.proofs.word.put_mov.Reads as put-mov-reads
-use Rattle.codegen.proofs.rules.+gen_arms+gen_bin_op+gen_branch+gen_code_inner+gen_cond_value+gen_into+gen_junction+gen_pair+gen_ternary+gen_test+gen_two.Lts-gen_into as lts
-use Rattle.codegen.proofs.rules.+gen_arms+gen_bin_op+gen_branch+gen_code_inner+gen_cond_value+gen_into+gen_junction+gen_pair+gen_ternary+gen_test+gen_two.Proof.Measures.{gen-code-inner-below, gen-into-at}
+use Rattle.codegen.proofs.rules.+gen_arms+gen_bin_op+gen_branch+gen_code_inner+gen_cond_value+gen_into+gen_jumps+gen_junction+gen_not+gen_operand+gen_pair+gen_ternary+gen_test+gen_two.Lts-gen_into as lts
+use Rattle.codegen.proofs.rules.+gen_arms+gen_bin_op+gen_branch+gen_code_inner+gen_cond_value+gen_into+gen_jumps+gen_junction+gen_not+gen_operand+gen_pair+gen_ternary+gen_test+gen_two.Proof.Measures.{gen-code-inner-below, gen-into-at}
 
 module _ (t : ℕ) where
   abbrev cl : lts.Claims
@@ -28,9 +28,7 @@ module _ (t : ℕ) where
   same-length-3 c = search rules
 
   returns : lts.Need-returns cl (gen-into-at t) gen-into.Post
-  returns c =
-      let c1 = c .before .before .before .before .before .before .before .before .before .before in
-      into-value _ _ _ _ (c1 .gen-code-inner .ensures) (c .before .before .put-mov .ensures)
+  returns c = into-value _ _ _ _ (c .before .before .before .before .before .before .before .before .before .before .gen-code-inner .ensures) (c .before .before .put-mov .ensures)
 
   pub gen-into-holds : (M : Type 1) → lts.Closed cl (gen-into-at t) gen-into.Post M
   gen-into-holds M =

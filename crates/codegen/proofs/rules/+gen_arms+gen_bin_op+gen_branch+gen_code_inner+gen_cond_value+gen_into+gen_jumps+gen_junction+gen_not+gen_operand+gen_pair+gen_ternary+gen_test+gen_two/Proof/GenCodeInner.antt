@@ -8,8 +8,8 @@ use Rattle.codegen.proofs.rules.gen_cond_value.Reads as gen-cond-value
 use Rattle.codegen.proofs.rules.gen_ternary.Reads as gen-ternary
 use Rattle.emit.proofs.leaf.gen_value.Reads as gen-value-reads
 use Rattle.table.proofs.kind_at.Reads as kind-at-reads
-use Rattle.codegen.proofs.rules.+gen_arms+gen_bin_op+gen_branch+gen_code_inner+gen_cond_value+gen_into+gen_junction+gen_pair+gen_ternary+gen_test+gen_two.Lts-gen_code_inner as lts
-use Rattle.codegen.proofs.rules.+gen_arms+gen_bin_op+gen_branch+gen_code_inner+gen_cond_value+gen_into+gen_junction+gen_pair+gen_ternary+gen_test+gen_two.Proof.Measures.{gen-bin-op-below, gen-code-inner-at, gen-cond-value-below, gen-ternary-below}
+use Rattle.codegen.proofs.rules.+gen_arms+gen_bin_op+gen_branch+gen_code_inner+gen_cond_value+gen_into+gen_jumps+gen_junction+gen_not+gen_operand+gen_pair+gen_ternary+gen_test+gen_two.Lts-gen_code_inner as lts
+use Rattle.codegen.proofs.rules.+gen_arms+gen_bin_op+gen_branch+gen_code_inner+gen_cond_value+gen_into+gen_jumps+gen_junction+gen_not+gen_operand+gen_pair+gen_ternary+gen_test+gen_two.Proof.Measures.{gen-bin-op-below, gen-code-inner-at, gen-cond-value-below, gen-ternary-below}
 
 module _ (t : ℕ) where
   abbrev cl : lts.Claims
@@ -20,9 +20,10 @@ module _ (t : ℕ) where
 
   gen-value-requires : lts.Need-gen-value-requires cl (gen-code-inner-at t) gen-code-inner.Post
   gen-value-requires c κs =
-      let c1 = c .before .before .before in
-      let c2 = c1 .before .before .before .before .before in
-      (leaf-ready (c2 .pre .1) (under (c1 .kind-at .ensures) (c .before .before .if1 .taken)), c2 .pre .1 .fit)
+      let c1 = c .before .before in
+      let c2 = c1 .before in
+      let c3 = c2 .before .before .before .before .before in
+      (leaf-ready (c3 .pre .1) (under (c2 .kind-at .ensures) (c1 .if1 .taken)), c3 .pre .1 .fit)
 
   same-length : lts.Need-same-length cl (gen-code-inner-at t) gen-code-inner.Post
   same-length c = search rules

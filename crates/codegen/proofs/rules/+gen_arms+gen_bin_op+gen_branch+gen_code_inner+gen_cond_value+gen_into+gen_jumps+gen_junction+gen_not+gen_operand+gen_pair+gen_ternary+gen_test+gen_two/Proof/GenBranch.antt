@@ -1,33 +1,29 @@
 -- `gen_branch`: The rule meets its contract. Assumes nothing.
 use Prim.Native.Nat.{ℕ}
 use native.Mathlib.Omega.{arith}
-use Rattle.codegen.proofs.Branches.{not-branch}
-use Rattle.codegen.proofs.Walk.{rules, inner, is-kind, is-not, same-eqb, junction-found, branch-over-junction, branch-over-test}
+use Rattle.codegen.proofs.Walk.{rules, is-kind, branch-over-not, is-not, same-eqb, junction-found, branch-over-junction, branch-over-test}
 use Rattle.codegen.proofs.rules.gen_branch.Reads as gen-branch
 use Rattle.codegen.proofs.rules.gen_junction.Reads as gen-junction
+use Rattle.codegen.proofs.rules.gen_not.Reads as gen-not
 use Rattle.codegen.proofs.rules.gen_test.Reads as gen-test
 use Rattle.emit.proofs.fold.is_junction.Reads as is-junction-reads
-use Rattle.table.proofs.child_1.Reads as child-1-reads
 use Rattle.table.proofs.kind_at.Reads as kind-at-reads
-use Rattle.codegen.proofs.rules.+gen_arms+gen_bin_op+gen_branch+gen_code_inner+gen_cond_value+gen_into+gen_junction+gen_pair+gen_ternary+gen_test+gen_two.Lts-gen_branch as lts
-use Rattle.codegen.proofs.rules.+gen_arms+gen_bin_op+gen_branch+gen_code_inner+gen_cond_value+gen_into+gen_junction+gen_pair+gen_ternary+gen_test+gen_two.Proof.Measures.{gen-branch-at, gen-branch-below, gen-junction-below, gen-test-below}
+use Rattle.codegen.proofs.rules.+gen_arms+gen_bin_op+gen_branch+gen_code_inner+gen_cond_value+gen_into+gen_jumps+gen_junction+gen_not+gen_operand+gen_pair+gen_ternary+gen_test+gen_two.Lts-gen_branch as lts
+use Rattle.codegen.proofs.rules.+gen_arms+gen_bin_op+gen_branch+gen_code_inner+gen_cond_value+gen_into+gen_jumps+gen_junction+gen_not+gen_operand+gen_pair+gen_ternary+gen_test+gen_two.Proof.Measures.{gen-branch-at, gen-junction-below, gen-not-below, gen-test-below}
 
 module _ (t : ℕ) where
   abbrev cl : lts.Claims
-  cl = (kind-at-reads.Asked, kind-at-reads.Learnt, child-1-reads.Asked, child-1-reads.Learnt, gen-branch-below t, gen-branch.Post, is-junction-reads.Asked, is-junction-reads.Learnt, gen-junction-below t, gen-junction.Post, gen-test-below t, gen-test.Post)
+  cl = (kind-at-reads.Asked, kind-at-reads.Learnt, gen-not-below t, gen-not.Post, is-junction-reads.Asked, is-junction-reads.Learnt, gen-junction-below t, gen-junction.Post, gen-test-below t, gen-test.Post)
 
   kind-at-requires : lts.Need-kind-at-requires cl (gen-branch-at t) gen-branch.Post
   kind-at-requires c κs = search rules
 
-  child-1-requires : lts.Need-child-1-requires cl (gen-branch-at t) gen-branch.Post
-  child-1-requires c κs =
+  gen-not-requires : lts.Need-gen-not-requires cl (gen-branch-at t) gen-branch.Post
+  gen-not-requires c κs =
       let c1 = c .before .before .before in
       let c2 = c1 .before in
       let c3 = c2 .before .before .before .before .before in
-      let q = is-kind (c2 .kind-at .ensures) (c1 .if1 .taken) in inner (c3 .pre .1) {m = 6} (omega (arith, q)) (omega arith)
-
-  gen-branch-requires : lts.Need-gen-branch-requires cl (gen-branch-at t) gen-branch.Post
-  gen-branch-requires c κs = search rules
+      (branch-over-not (c3 .args .nodes .now) (c3 .args .i) t (c3 .pre .0), (c3 .pre .1, is-kind (c2 .kind-at .ensures) (c1 .if1 .taken)))
 
   same-length : lts.Need-same-length cl (gen-branch-at t) gen-branch.Post
   same-length c = search rules
@@ -39,13 +35,7 @@ module _ (t : ℕ) where
   same-length-3 c = search rules
 
   returns : lts.Need-returns cl (gen-branch-at t) gen-branch.Post
-  returns c =
-      let c1 = c .before .before .before .before .before .before in
-      let c2 = c1 .before in
-      let c3 = c2 .before .before .before .before in
-      let c4 = c3 .before in
-      let c5 = c4 .before .before .before .before .before in
-      not-branch (c5 .pre .1) _ _ (is-kind (c4 .kind-at .ensures) (c3 .if1 .taken)) (c2 .child-1 .ensures) (c1 .gen-branch .ensures)
+  returns c = search rules
 
   is-junction-requires : lts.Need-is-junction-requires cl (gen-branch-at t) gen-branch.Post
   is-junction-requires c κs = search rules
@@ -95,8 +85,7 @@ module _ (t : ℕ) where
   gen-branch-holds M =
       lts.spec cl (gen-branch-at t) gen-branch.Post
       kind-at-requires
-      child-1-requires
-      gen-branch-requires
+      gen-not-requires
       same-length
       same-length-2
       same-length-3

@@ -2,17 +2,17 @@
 use Prim.Native.Nat.{ℕ}
 use Rattle.codegen.proofs.Parts.{listed, prefix, kept-jumps}
 use Rattle.codegen.proofs.Values.{cond-stop, cond-refused, cond-value}
-use Rattle.codegen.proofs.Walk.{rules, cond-over-branch, ready-dest}
-use Rattle.codegen.proofs.rules.gen_branch.Reads as gen-branch
+use Rattle.codegen.proofs.Walk.{rules, cond-over-jumps, ready-dest}
+use Rattle.codegen.proofs.rules.gen_jumps.Reads as gen-jumps
 use Rattle.codegen.proofs.rules.gen_cond_value.Reads as gen-cond-value
 use Rattle.emit.proofs.jump.gen_bool.Reads as gen-bool-reads
 use Rattle.emit.proofs.state.dest.Reads as dest-reads
-use Rattle.codegen.proofs.rules.+gen_arms+gen_bin_op+gen_branch+gen_code_inner+gen_cond_value+gen_into+gen_junction+gen_pair+gen_ternary+gen_test+gen_two.Lts-gen_cond_value as lts
-use Rattle.codegen.proofs.rules.+gen_arms+gen_bin_op+gen_branch+gen_code_inner+gen_cond_value+gen_into+gen_junction+gen_pair+gen_ternary+gen_test+gen_two.Proof.Measures.{gen-branch-below, gen-cond-value-at}
+use Rattle.codegen.proofs.rules.+gen_arms+gen_bin_op+gen_branch+gen_code_inner+gen_cond_value+gen_into+gen_jumps+gen_junction+gen_not+gen_operand+gen_pair+gen_ternary+gen_test+gen_two.Lts-gen_cond_value as lts
+use Rattle.codegen.proofs.rules.+gen_arms+gen_bin_op+gen_branch+gen_code_inner+gen_cond_value+gen_into+gen_jumps+gen_junction+gen_not+gen_operand+gen_pair+gen_ternary+gen_test+gen_two.Proof.Measures.{gen-jumps-below, gen-cond-value-at}
 
 module _ (t : ℕ) where
   abbrev cl : lts.Claims
-  cl = (dest-reads.Asked, dest-reads.Learnt, gen-branch-below t, gen-branch.Post, gen-bool-reads.Asked, gen-bool-reads.Learnt)
+  cl = (dest-reads.Asked, dest-reads.Learnt, gen-jumps-below t, gen-jumps.Post, gen-bool-reads.Asked, gen-bool-reads.Learnt)
 
   dest-requires : lts.Need-dest-requires cl (gen-cond-value-at t) gen-cond-value.Post
   dest-requires c κs = search rules
@@ -25,35 +25,28 @@ module _ (t : ℕ) where
 
   returns : lts.Need-returns cl (gen-cond-value-at t) gen-cond-value.Post
   returns c =
-      let c1 = c .before .before .before .before .before .before .before in
-      cond-stop (c1 .pre .1 .0) _ _ (c1 .pre .1 .1) (c .before .before .dest .ensures) (c .enum-told .given .1)
+      let c1 = c .before .before in
+      let c2 = c1 .before .before .before .before .before in
+      cond-stop (c2 .pre .1 .0) _ _ (c2 .pre .1 .1) (c1 .dest .ensures) (c .enum-told .given .1)
 
-  gen-branch-requires : lts.Need-gen-branch-requires cl (gen-cond-value-at t) gen-cond-value.Post
-  gen-branch-requires c κs =
+  gen-jumps-requires : lts.Need-gen-jumps-requires cl (gen-cond-value-at t) gen-cond-value.Post
+  gen-jumps-requires c κs =
       let c1 = c .before .before .before .before in
       let c2 = c1 .before .before in
       let c3 = c2 .before .before .before .before .before in
-      (cond-over-branch (c3 .args .nodes .now) (c3 .args .i) t (c3 .pre .0) (c3 .pre .1 .1 .0) (c3 .pre .1 .1 .1), ready-dest (c3 .pre .1 .0) _ (c2 .dest .ensures) (c1 .x .given .1))
+      (cond-over-jumps (c3 .args .nodes .now) (c3 .args .i) t (c3 .pre .0) (c3 .pre .1 .1 .0) (c3 .pre .1 .1 .1), ready-dest (c3 .pre .1 .0) _ (c2 .dest .ensures) (c1 .x .given .1))
 
   enum-known-y : lts.Need-enum-known-y cl (gen-cond-value-at t) gen-cond-value.Post
   enum-known-y c = search rules
 
   slice-reshare-prefix-gen-bool : lts.Need-slice-reshare-prefix-gen-bool cl (gen-cond-value-at t) gen-cond-value.Post
-  slice-reshare-prefix-gen-bool c =
-      let c1 = c .before .before .before .before .before .before .before .before .before .before in
-      listed (c .before .before .y .given .1) (c1 .gen-branch .ensures)
+  slice-reshare-prefix-gen-bool c = listed (c .before .before .y .given .1) (c .before .before .before .before .before .before .before .before .before .before .gen-jumps .ensures)
 
   slice-aggregate-gen-bool : lts.Need-slice-aggregate-gen-bool cl (gen-cond-value-at t) gen-cond-value.Post
-  slice-aggregate-gen-bool c =
-      let c1 = c .before .before .before in
-      let c2 = c1 .before .before .before .before .before .before .before .before in
-      prefix _ _ (listed (c1 .y .given .1) (c2 .gen-branch .ensures))
+  slice-aggregate-gen-bool c = prefix _ _ (listed (c .before .before .before .y .given .1) (c .before .before .before .before .before .before .before .before .before .before .before .gen-jumps .ensures))
 
   gen-bool-requires : lts.Need-gen-bool-requires cl (gen-cond-value-at t) gen-cond-value.Post
-  gen-bool-requires c κs =
-      let c1 = c .before .before .before in
-      let c2 = c1 .before .before .before .before .before .before .before .before in
-      kept-jumps (c1 .y .given .1) (c2 .gen-branch .ensures) .words
+  gen-bool-requires c κs = kept-jumps (c .before .before .before .y .given .1) (c .before .before .before .before .before .before .before .before .before .before .before .gen-jumps .ensures) .words
 
   enum-known-y-2 : lts.Need-enum-known-y-2 cl (gen-cond-value-at t) gen-cond-value.Post
   enum-known-y-2 c = search rules
@@ -69,12 +62,13 @@ module _ (t : ℕ) where
 
   returns-2 : lts.Need-returns-2 cl (gen-cond-value-at t) gen-cond-value.Post
   returns-2 c =
-      let c1 = c .before .before .before .before .before .before in
-      let c2 = c1 .before .before .before .before .before .before .before .before in
-      let c3 = c2 .before .before .before .before .before in
-      let c4 = c3 .before .before in
-      let c5 = c4 .before .before .before .before .before in
-      cond-value (c5 .pre .1 .0) _ _ (c5 .pre .1 .1) (c4 .dest .ensures) (c3 .x .given .1) (c2 .gen-branch .ensures) (c1 .y .given .1) (c .before .before .gen-bool .ensures)
+      let c1 = c .before .before in
+      let c2 = c1 .before .before .before .before in
+      let c3 = c2 .before .before .before .before .before .before .before .before in
+      let c4 = c3 .before .before .before .before .before in
+      let c5 = c4 .before .before in
+      let c6 = c5 .before .before .before .before .before in
+      cond-value (c6 .pre .1 .0) _ _ (c6 .pre .1 .1) (c5 .dest .ensures) (c4 .x .given .1) (c3 .gen-jumps .ensures) (c2 .y .given .1) (c1 .gen-bool .ensures)
 
   same-length-4 : lts.Need-same-length-4 cl (gen-cond-value-at t) gen-cond-value.Post
   same-length-4 c = search rules
@@ -87,11 +81,12 @@ module _ (t : ℕ) where
 
   returns-3 : lts.Need-returns-3 cl (gen-cond-value-at t) gen-cond-value.Post
   returns-3 c =
-      let c1 = c .before .before .before .before .before .before .before .before .before in
-      let c2 = c1 .before .before .before .before .before in
-      let c3 = c2 .before .before in
-      let c4 = c3 .before .before .before .before .before in
-      cond-refused (c4 .pre .1 .0) _ _ (c4 .pre .1 .1) (c3 .dest .ensures) (c2 .x .given .1) (c1 .gen-branch .ensures) (c .before .y2 .given .1)
+      let c1 = c .before in
+      let c2 = c1 .before .before .before .before .before .before .before .before in
+      let c3 = c2 .before .before .before .before .before in
+      let c4 = c3 .before .before in
+      let c5 = c4 .before .before .before .before .before in
+      cond-refused (c5 .pre .1 .0) _ _ (c5 .pre .1 .1) (c4 .dest .ensures) (c3 .x .given .1) (c2 .gen-jumps .ensures) (c1 .y2 .given .1)
 
   pub gen-cond-value-holds : (M : Type 1) → lts.Closed cl (gen-cond-value-at t) gen-cond-value.Post M
   gen-cond-value-holds M =
@@ -100,7 +95,7 @@ module _ (t : ℕ) where
       enum-known-x
       enum-told
       returns
-      gen-branch-requires
+      gen-jumps-requires
       enum-known-y
       slice-reshare-prefix-gen-bool
       slice-aggregate-gen-bool
