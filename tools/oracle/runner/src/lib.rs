@@ -33,6 +33,21 @@ pub fn rewrite(c: &Compiled, seen: &mut Vec<&'static str>) -> Option<Compiled> {
     Some(out)
 }
 
+/// Whether the list of differences makes the published answer to a job the
+/// other one, to the last bit.
+pub fn explained(job: &Job, published: &Result<Compiled, Refused>, other: &Result<Compiled, Refused>, seen: &mut Vec<&'static str>) -> bool {
+    match (published, other) {
+        (Ok(a), Ok(b)) => rewrite(a, seen).as_ref() == Some(b),
+        (Err(x), Err(y)) if x == y => true,
+        // the published mode asks for fewer slots, and then fails later or not at all
+        (_, Err(Refused(6))) if job.table.chunks(4).any(|n| n[0] == FLOAT && in_immediate(n[1])) => {
+            seen.push("Float in load_imm40 (slots run out)");
+            true
+        }
+        _ => false,
+    }
+}
+
 fn slot(consts: &mut Vec<(u8, u64)>, pair: (u8, u64)) -> i64 {
     consts.push(pair);
     consts.len() as i64 - 1
@@ -71,7 +86,7 @@ pub fn numbers<const N: usize>(defaults: [u64; N]) -> [u64; N] {
 /// into numbers; only a panic of the programs' own is shown.
 pub fn quiet() {
     std::panic::set_hook(Box::new(|info| {
-        let ours = info.location().is_some_and(|l| l.file().starts_with("runner") || l.file().starts_with("tables"));
+        let ours = info.location().is_some_and(|l| l.file().starts_with("src/") || ["runner/src/", "tables/src/"].iter().any(|f| l.file().contains(f)));
         if ours { eprintln!("{info}") }
     }))
 }

@@ -58,12 +58,12 @@ pub fn function(params: u32, locals: u32) -> Function
     Function { params: vec![String::new(); params as usize], num_locals: locals as usize, ..Default::default() }
 }
 
-/// A generator with its stores, used again from job to job.
-pub struct Oracle { pub actor: vm::Actor, pub prog: Program }
+/// A generator with its stores and its function, used again from job to job.
+pub struct Oracle { pub actor: vm::Actor, pub prog: Program, fun: Function }
 
 impl Oracle
 {
-    pub fn new() -> Self { Oracle { actor: vm::Actor::new(), prog: Program::new() } }
+    pub fn new() -> Self { Oracle { actor: vm::Actor::new(), prog: Program::new(), fun: function(0, 0) } }
 
     pub fn clear(&mut self, max_words: usize, max_slots: usize)
     {
@@ -89,11 +89,15 @@ impl Oracle
         // the check bounds both counts and the destination by 65,535
         let (params, locals) = (job.params as u32, job.locals as u32);
         let expr = tree(&job.table, params);
-        let fun = function(params, locals);
+        let mut fun = std::mem::take(&mut self.fun);
+        fun.params.resize(params as usize, String::new());
+        fun.num_locals = locals as usize;
         self.clear(job.max_words, job.max_slots);
         let dst = job.dst.map(|d| d as u16);
         let run = std::panic::AssertUnwindSafe(|| self.emit(&expr, &fun, dst));
-        match std::panic::catch_unwind(run) {
+        let done = std::panic::catch_unwind(run);
+        self.fun = fun;
+        match done {
             Ok((reg, frame)) => Ok(Compiled {
                 words: self.actor.insns.iter().map(|w| w.word_u64()).collect(),
                 consts: self.actor.consts.iter().map(|v| pair(*v)).collect(),

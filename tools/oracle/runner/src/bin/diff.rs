@@ -2,7 +2,7 @@
 //! known differences, must be the house answer to the last bit; each
 //! difference is counted, with the smallest table that shows it.
 //!     diff [jobs] [seed]
-use runner::{in_immediate, rewrite};
+use runner::explained;
 use std::collections::BTreeMap;
 use tables::gen::{damage, good, Rng};
 use tables::opcodes::{decode, OPCODES};
@@ -23,8 +23,8 @@ fn main() {
         if i % 3 == 2 { job = damage(&mut r, &job) }
         let (a, b) = (p.compile(&job), h.compile(&job));
         let mut seen = vec![];
-        let explained = match (&a, &b) {
-            (Ok(a), Ok(b)) => {
+        match &b {
+            Ok(b) => {
                 accepted += 1;
                 let n = job.table.len() / 4;
                 nodes += n;
@@ -35,18 +35,10 @@ fn main() {
                     used[op] += 1;
                     if OPCODES[op].1.last().unwrap().is_disp() { farthest = farthest.max(*v.last().unwrap()) }
                 }
-                rewrite(a, &mut seen).as_ref() == Some(b)
             }
-            (Err(x), Err(y)) if x == y => true,
-            // the published mode asks for fewer slots, and then fails later or not at all
-            (_, Err(Refused(6))) if job.table.chunks(4).any(|n| n[0] == FLOAT && in_immediate(n[1])) => {
-                seen.push("Float in load_imm40 (slots run out)");
-                true
-            }
-            _ => false,
-        };
-        if let Err(Refused(n)) = b { *refused.entry(n).or_default() += 1 }
-        if !explained {
+            Err(Refused(n)) => *refused.entry(*n).or_default() += 1,
+        }
+        if !explained(&job, &a, &b, &mut seen) {
             unexplained += 1;
             println!("FAIL {job:?}\n  published {a:?}\n  house     {b:?}");
         }
