@@ -1,34 +1,233 @@
-/* vosemaqe: expressions over registers, checked, compiled, evaluated and run. This header is the manual. */
+/* vosemaqe.h: expressions over registers, checked, compiled to instruction words, evaluated and run.
+ *
+ * This header is the manual of libvosemaqe.a (x86-64 Linux; link nothing beside it but a C library, for memset). Every function is proved
+ * to give what is written here, on every input; docs/CLAIMS.md says by which theorem.
+ *
+ *     rt staticlib vosemaqe                           proves the library and writes target/staticlib/libvosemaqe.a
+ *     cc -Iinclude prog.c target/staticlib/libvosemaqe.a
+ *
+ * WHAT EVERY FUNCTION PROMISES
+ *
+ *   - It returns a number: 0 for done, else why not (enum vosemaqe_number). It returns on every input; the only function whose time is not
+ *     bounded by the length of what it is lent is the machine, and that is bounded by its budget.
+ *   - It reads and writes only what it is lent. It allocates nothing, keeps nothing, has no state and calls nothing. So any number of
+ *     threads may call at once, each with buffers of its own; a buffer that is only read may be shared.
+ *   - Every result cell is written: it holds 0 where the number is not 0, but for the steps and the position of a run, which a stopped run has too.
+ *   - Its stack is bounded: docs/STACK.md has the figure of each function. No depth of an expression takes more.
+ *
+ * WHAT THE CALLER OWES
+ *
+ *   - A pointer and its length describe memory that is the caller's, aligned for its type. A pointer whose length is 0 is never followed: it may be null.
+ *     A result cell is one uint64_t and is never null.
+ *   - What is written may not overlap anything else that is lent to the same call, result cells included. What is only read may.
+ *
+ * VALUES are lent as pairs, a kind byte and a 64-bit payload, in two arrays. Where the two have different lengths the shorter counts. A pair that
+ * is none of these is ill-formed (29):
+ *
+ *     kind                    payload
+ *     VOSEMAQE_NIL            0
+ *     VOSEMAQE_BOOL           0 or 1
+ *     VOSEMAQE_INT            two's complement
+ *     VOSEMAQE_FLOAT          the bits of an IEEE 754 binary64
+ *
+ * NODE TABLES are runs of 64-bit words, four to a node: kind, payload, first, depth. Nodes stand in post-order, the root last: the last child
+ * of node i is i - 1, the child before it ends just before that one's `first`. `first` is the lowest node of the subtree; `depth` is 1 for a leaf,
+ * else one more than the deepest child's. The payload is 0 but for an Int (two's complement), a Float (bits) and a Ref (a register).
+ * The layout is `params` + `locals`, the base: a Ref, and a destination, is below it. `dest` is 0 for none, r + 1 for register r.
+ */
 #ifndef VOSEMAQE_H
 #define VOSEMAQE_H
+
 #include <stddef.h>
 #include <stdint.h>
+
 #ifdef __cplusplus
 extern "C" {
 #endif
 
+/* The numbers. */
+enum vosemaqe_number {
+    VOSEMAQE_DONE = 0,
+    VOSEMAQE_BAD_SHAPE = 1,     /* table empty, not a multiple of 4 words, or over VOSEMAQE_MAX_NODES */
+    VOSEMAQE_BAD_NODE = 2,      /* unknown kind, non-zero payload, missing child, wrong first or depth, or last node's first not 0 */
+    VOSEMAQE_TOO_DEEP = 3,      /* depth over VOSEMAQE_MAX_DEPTH */
+    VOSEMAQE_NOT_LOCAL = 4,     /* Ref or destination not below the base */
+    VOSEMAQE_NO_REGISTER = 5,   /* parameters plus locals, or an allocation, pass VOSEMAQE_MAX_REGISTERS */
+    VOSEMAQE_NO_SLOT = 6,       /* no constant slot left */
+    VOSEMAQE_NO_ROOM = 7,       /* no room for a word, or for a jump in a lent jump list */
+    VOSEMAQE_TOO_FAR = 8,       /* displacement outside its field when patching; no compile gives it */
+    VOSEMAQE_NO_FIT = 9,        /* an operand does not fit its field, or no such opcode */
+    VOSEMAQE_UNDECODED = 10,    /* a word that does not decode */
+    VOSEMAQE_NOT_BRANCH = 11,   /* patching: not a branch */
+    VOSEMAQE_NO_WORD = 12,      /* patching: no word at the branch position */
+    VOSEMAQE_WRONG_KIND = 20,   /* wrong kind of value */
+    VOSEMAQE_OVERFLOW = 21,     /* integer result outside 64 bits signed */
+    VOSEMAQE_MOD_BY_ZERO = 22,
+    VOSEMAQE_NOT_EXACT = 23,    /* Int outside -2^53..2^53 meets a Float, or stands in Div */
+    VOSEMAQE_BAD_SHIFT = 24,    /* shift amount outside 0..63 */
+    VOSEMAQE_BUDGET_SPENT = 25,
+    VOSEMAQE_OUT_OF_RANGE = 26, /* register, slot, start, part or taken target out of range; fewer locals than the base */
+    VOSEMAQE_PANIC_WORD = 27,
+    VOSEMAQE_NOT_RUN = 28,      /* an opcode that this machine does not run */
+    VOSEMAQE_ILL_FORMED = 29    /* ill-formed value lent */
+};
+
+/* The limits. */
+#define VOSEMAQE_MAX_NODES 4096
+#define VOSEMAQE_MAX_DEPTH 64
+#define VOSEMAQE_MAX_REGISTERS 65535
+
+/* What to lend. A compile of n nodes makes at most 4 * n words, at most n constants, and needs at most n / 2 places in a jump list; with
+ * this much it is refused only for its table, or for registers (5). A run needs as many registers as the frame that compile reports. */
+#define VOSEMAQE_NODE_WORDS 4
+#define VOSEMAQE_WORDS_FOR(nodes) (4 * (nodes))
+#define VOSEMAQE_SLOTS_FOR(nodes) (nodes)
+#define VOSEMAQE_JUMPS_FOR(nodes) ((nodes) / 2)
+
+/* The kinds of a value. */
+enum vosemaqe_value { VOSEMAQE_NIL = 0, VOSEMAQE_BOOL = 1, VOSEMAQE_INT = 2, VOSEMAQE_FLOAT = 3 };
+
+/* The kinds of a node. Children in order: one for MINUS and NOT, two from BIT_AND to OR, three (test, then, else) for TERNARY. */
+enum vosemaqe_node {
+    VOSEMAQE_NODE_NIL = 0, VOSEMAQE_NODE_TRUE = 1, VOSEMAQE_NODE_FALSE = 2, VOSEMAQE_NODE_INT = 3, VOSEMAQE_NODE_FLOAT = 4, VOSEMAQE_NODE_REF = 5,
+    VOSEMAQE_NODE_MINUS = 6, VOSEMAQE_NODE_NOT = 7,
+    VOSEMAQE_NODE_BIT_AND = 8, VOSEMAQE_NODE_BIT_OR = 9, VOSEMAQE_NODE_BIT_XOR = 10, VOSEMAQE_NODE_LSHIFT = 11, VOSEMAQE_NODE_RSHIFT = 12,
+    VOSEMAQE_NODE_ADD = 13, VOSEMAQE_NODE_SUB = 14, VOSEMAQE_NODE_MUL = 15, VOSEMAQE_NODE_DIV = 16, VOSEMAQE_NODE_MOD = 17,
+    VOSEMAQE_NODE_EQ = 18, VOSEMAQE_NODE_NE = 19, VOSEMAQE_NODE_LT = 20, VOSEMAQE_NODE_LE = 21, VOSEMAQE_NODE_GT = 22, VOSEMAQE_NODE_GE = 23,
+    VOSEMAQE_NODE_AND = 24, VOSEMAQE_NODE_OR = 25, VOSEMAQE_NODE_TERNARY = 26
+};
+
+/* The opcodes, the low byte of a word. Operands in declared order follow the name; r is a register, s a slot, n an unsigned number,
+ * i a signed 16-bit literal, v the raw bits of a value in 40 bits (4n of an Int n, Nil 1, False 5, True 9), j a displacement (target - position - 1);
+ * the number beside a letter is the width of the field. A * is run by the machine; panic stops it with 27, any other with 28. */
+enum vosemaqe_opcode {
+    VOSEMAQE_OP_PANIC = 0,
+    VOSEMAQE_OP_BREAKPOINT = 1,
+    VOSEMAQE_OP_NOP = 2,                  /* * */
+    VOSEMAQE_OP_LOAD_IMM40 = 3,           /* r v * */
+    VOSEMAQE_OP_MOV = 4,                  /* r r * */
+    VOSEMAQE_OP_LOAD_CONST = 5,           /* r s * */
+    VOSEMAQE_OP_GET_GLOBAL = 6,           /* r n32 */
+    VOSEMAQE_OP_SET_GLOBAL = 7,           /* r n32 */
+    VOSEMAQE_OP_LSHIFT = 8,               /* r r r * */
+    VOSEMAQE_OP_RSHIFT = 9,               /* r r r * */
+    VOSEMAQE_OP_BIT_AND = 10,             /* r r r * */
+    VOSEMAQE_OP_BIT_OR = 11,              /* r r r * */
+    VOSEMAQE_OP_BIT_XOR = 12,             /* r r r * */
+    VOSEMAQE_OP_BIT_NOT = 13,             /* r r */
+    VOSEMAQE_OP_LSHIFT_IMM = 14,          /* r r n6 * */
+    VOSEMAQE_OP_RSHIFT_IMM = 15,          /* r r n6 * */
+    VOSEMAQE_OP_BIT_AND_MASK = 16,        /* r r n6 n6 * */
+    VOSEMAQE_OP_RSHIFT_MASK = 17,         /* r r n6 n6 n6 * */
+    VOSEMAQE_OP_ADD = 18,                 /* r r r * */
+    VOSEMAQE_OP_SUB = 19,                 /* r r r * */
+    VOSEMAQE_OP_MUL = 20,                 /* r r r * */
+    VOSEMAQE_OP_DIV = 21,                 /* r r r * */
+    VOSEMAQE_OP_MODULO = 22,              /* r r r * */
+    VOSEMAQE_OP_ADD_IMM16 = 23,           /* r r i * */
+    VOSEMAQE_OP_SUB_IMM16 = 24,           /* r r i * */
+    VOSEMAQE_OP_MUL_IMM16 = 25,           /* r r i * */
+    VOSEMAQE_OP_NOT = 26,                 /* r r * */
+    VOSEMAQE_OP_CLOS_NEW = 27,            /* r n24 n12 */
+    VOSEMAQE_OP_CLOS_SET = 28,            /* r r n12 */
+    VOSEMAQE_OP_CLOS_GET = 29,            /* r n12 */
+    VOSEMAQE_OP_CELL_NEW = 30,            /* r */
+    VOSEMAQE_OP_CELL_SET = 31,            /* r r */
+    VOSEMAQE_OP_CELL_GET = 32,            /* r r */
+    VOSEMAQE_OP_INSTANCEOF = 33,          /* r r n24 */
+    VOSEMAQE_OP_INSTANCEOF_SUB = 34,      /* r r n24 */
+    VOSEMAQE_OP_GET_FIELD = 35,           /* r r n24 */
+    VOSEMAQE_OP_SET_FIELD = 36,           /* r r n24 */
+    VOSEMAQE_OP_GET_INDEX = 37,           /* r r r */
+    VOSEMAQE_OP_SET_INDEX = 38,           /* r r r */
+    VOSEMAQE_OP_DICT_NEW = 39,            /* r */
+    VOSEMAQE_OP_ARR_NEW = 40,             /* r n32 */
+    VOSEMAQE_OP_ARR_PUSH = 41,            /* r r */
+    VOSEMAQE_OP_BA_CLONE = 42,            /* r r */
+    VOSEMAQE_OP_IF_TRUE = 43,             /* r j32 * */
+    VOSEMAQE_OP_IF_FALSE = 44,            /* r j32 * */
+    VOSEMAQE_OP_JEQ = 45,                 /* r r j24 * */
+    VOSEMAQE_OP_JNE = 46,                 /* r r j24 * */
+    VOSEMAQE_OP_JLT = 47,                 /* r r j24 * */
+    VOSEMAQE_OP_JLE = 48,                 /* r r j24 * */
+    VOSEMAQE_OP_JGT = 49,                 /* r r j24 * */
+    VOSEMAQE_OP_JGE = 50,                 /* r r j24 * */
+    VOSEMAQE_OP_JNLT = 51,                /* r r j24 * */
+    VOSEMAQE_OP_JNLE = 52,                /* r r j24 * */
+    VOSEMAQE_OP_JNGT = 53,                /* r r j24 * */
+    VOSEMAQE_OP_JNGE = 54,                /* r r j24 * */
+    VOSEMAQE_OP_JEQ_IMM16 = 55,           /* r i j24 * */
+    VOSEMAQE_OP_JNE_IMM16 = 56,           /* r i j24 * */
+    VOSEMAQE_OP_JLT_IMM16 = 57,           /* r i j24 * */
+    VOSEMAQE_OP_JLE_IMM16 = 58,           /* r i j24 * */
+    VOSEMAQE_OP_JGT_IMM16 = 59,           /* r i j24 * */
+    VOSEMAQE_OP_JGE_IMM16 = 60,           /* r i j24 * */
+    VOSEMAQE_OP_JNLT_IMM16 = 61,          /* r i j24 * */
+    VOSEMAQE_OP_JNLE_IMM16 = 62,          /* r i j24 * */
+    VOSEMAQE_OP_JNGT_IMM16 = 63,          /* r i j24 * */
+    VOSEMAQE_OP_JNGE_IMM16 = 64,          /* r i j24 * */
+    VOSEMAQE_OP_JMP = 65,                 /* j32 * */
+    VOSEMAQE_OP_CALL_OPND = 66,           /* r n8 n24 */
+    VOSEMAQE_OP_CALL_HOST = 67,           /* n16 r n8 */
+    VOSEMAQE_OP_CALL_DIRECT = 68,         /* n24 r n8 */
+    VOSEMAQE_OP_CALL_PC = 69,             /* r n8 n24 */
+    VOSEMAQE_OP_CALL_METHOD = 70,         /* r n8 n24 */
+    VOSEMAQE_OP_CALL_METHOD_HOST = 71,    /* r n8 n8 n24 */
+    VOSEMAQE_OP_CALL_IDIV_INT = 72,       /* r n8 n24 */
+    VOSEMAQE_OP_NEW = 73,                 /* n24 r n8 */
+    VOSEMAQE_OP_NEW_KNOWN_CTOR = 74,      /* r n8 n24 */
+    VOSEMAQE_OP_RET = 75,                 /* r */
+    VOSEMAQE_OP_RET_IMM40 = 76            /* v */
+};
+
+/* The number of a table with its layout and its destination: 0 to 5, the first fault in this order: 1, 5 of the layout, 4 of the destination,
+ * 2, 3, 4 of each node from 0 upward, 2 of the last node's first. */
 uint8_t vosemaqe_check(const uint64_t *nodes, size_t nodes_len, uint64_t params, uint64_t locals, uint64_t dest);
 
+/* Compiles a table. Done: `code` holds *words words and zeros after them; slot_kinds and slot_payloads hold *slots constants and zeros after them;
+ * *reg is the register that holds the value after a run (the destination, if one was given), *frame how many registers a run needs. Refused: the number is
+ * vosemaqe_check's, or the first of 5, 6, 7 in the order of emission; all of code, slot_kinds, slot_payloads and the cells are zero. */
 uint8_t vosemaqe_compile(const uint64_t *nodes, size_t nodes_len, uint64_t params, uint64_t locals, uint64_t dest,
     uint64_t *code, size_t code_len, uint8_t *slot_kinds, size_t slot_kinds_len, uint64_t *slot_payloads, size_t slot_payloads_len,
     uint64_t *words, uint64_t *slots, uint64_t *reg, uint64_t *frame);
 
+/* The same with a lent jump list in place of the 2,048 places that vosemaqe_compile has on its stack: 7 where it runs out. All of `jumps` is left zero. */
 uint8_t vosemaqe_compile_with(const uint64_t *nodes, size_t nodes_len, uint64_t params, uint64_t locals, uint64_t dest,
     uint64_t *code, size_t code_len, uint8_t *slot_kinds, size_t slot_kinds_len, uint64_t *slot_payloads, size_t slot_payloads_len,
     uint64_t *jumps, size_t jumps_len, uint64_t *words, uint64_t *slots, uint64_t *reg, uint64_t *frame);
 
+/* The value of a table on its locals, by its tree and not by its words. Checked in this order: the table and the layout; 26 if fewer pairs than the base
+ * are lent; 29 if one of the first base pairs is ill-formed; then the first of 20 to 24 that the expression meets. Writes only the two cells. */
 uint8_t vosemaqe_evaluate(const uint64_t *nodes, size_t nodes_len, uint64_t params, uint64_t locals,
     const uint8_t *kinds, size_t kinds_len, const uint64_t *payloads, size_t payloads_len, uint64_t *kind, uint64_t *payload);
 
+/* Runs words from `start` (0 for a compiled expression) until the position equals the length, on registers and slots lent as pairs, at most `budget` steps.
+ * Before the first step: 26 for a start past the length (at that position), 29 for an ill-formed register or slot (at position 0); 0 steps, registers
+ * unchanged. At each step, in this order: the end, 25, 10, 27 or 28, 26 for a register or a slot, the operation's 20 to 24, 26 for a taken target.
+ * *steps is the number of steps taken, *position the stopping word's, or the length when done. A stopping step is not counted and writes nothing.
+ * A compiled expression takes at most as many steps as it has words. */
 uint8_t vosemaqe_run(const uint64_t *words, size_t words_len, size_t start,
     uint8_t *kinds, size_t kinds_len, uint64_t *payloads, size_t payloads_len,
     const uint8_t *slot_kinds, size_t slot_kinds_len, const uint64_t *slot_payloads, size_t slot_payloads_len,
     uint64_t budget, uint64_t *steps, uint64_t *position);
 
+/* Runs the words of a store from `entry` up to `end`, from their first on; *position counts from the entry. 26 at the entry given, with 0 steps and
+ * registers unchanged, if the entry is past the end or the end past the store. */
 uint8_t vosemaqe_run_part(const uint64_t *store, size_t store_len, size_t entry, size_t end,
     uint8_t *kinds, size_t kinds_len, uint64_t *payloads, size_t payloads_len,
     const uint8_t *slot_kinds, size_t slot_kinds_len, const uint64_t *slot_payloads, size_t slot_payloads_len,
     uint64_t budget, uint64_t *steps, uint64_t *position);
+
+/* The opcode and the operands of a word in declared order, zero in those that it lacks; a signed one is two's complement of 64 bits. 10, and all zero, if
+ * the word does not decode: an unknown opcode, a bit above the fields, an immediate that is no value's. */
+uint8_t vosemaqe_decode(uint64_t word, uint64_t *opcode, uint64_t *a, uint64_t *b, uint64_t *c, uint64_t *d, uint64_t *e);
+
+/* The word of an opcode and its operands, the inverse of vosemaqe_decode: 9, and a zero word, if an operand does not fit its field, one that the opcode
+ * lacks is not 0, or the opcode is over 76. */
+uint8_t vosemaqe_encode(uint64_t opcode, uint64_t a, uint64_t b, uint64_t c, uint64_t d, uint64_t e, uint64_t *word);
+
+/* Aims the branch at position `at` at a target, which is any number. Checked in this order: 12, 10, 11, 8. Changes one word when done, else none. */
+uint8_t vosemaqe_patch(uint64_t *words, size_t words_len, size_t at, uint64_t target);
 
 #ifdef __cplusplus
 }

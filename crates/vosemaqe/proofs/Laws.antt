@@ -15,9 +15,20 @@ use Rattle.codegen.specs.Compile as C
 use Rattle.codegen.specs.Compile.{compileOf}
 use Rattle.codegen.specs.declared.compile.Compiled.{Compiled}
 use Rattle.codegen.specs.declared.compile.Compiled.the-variants.{Done, Refused}
-use Rattle.vosemaqe.specs.Boundary.{destOf, report, reportOf, Compiles, found, foundOf}
+use Rattle.faults.specs.Numbers.{undecoded, noFit}
+use Rattle.insns.specs.declared.Insn.{Insn}
+use Rattle.insns.specs.declared.Made.{Made}
+use Rattle.insns.specs.declared.op.Op.{Op}
+use Rattle.decode.specs.Patch.{patchedNumber}
+use Rattle.decode.specs.declared.Decoded.{Decoded}
+use Rattle.decode.specs.declared.patch.Patched.{Patched}
+use Rattle.parts.specs.Parts.{partsOf}
+use Rattle.parts.specs.declared.Parts.{Parts}
+use Rattle.vosemaqe.specs.Boundary.{destOf, report, reportOf, Compiles, found, foundOf, shown, shownAs, shownOf, coined, coinedOf}
 use Rattle.vosemaqe.specs.declared.Report.{Report}
 use Rattle.vosemaqe.specs.declared.Found.{Found}
+use Rattle.vosemaqe.specs.declared.Shown.{Shown}
+use Rattle.vosemaqe.specs.declared.Coined.{Coined}
 
 -- ---- a destination
 
@@ -46,7 +57,19 @@ found-is e f g = rw (e, f, g)
 pub found-fault : {a : Answer} {n : ℕ} → a ≡ A.Fault n → found n 0 0 ≡ foundOf (resultOf a)
 found-fault e = rw e
 
-pub ruleset reports = (report-done, report-refused, found-is, found-fault)
+pub shown-is : {d : Decoded} {i : Op} {p : Parts} → d ≡ Decoded.Is i → p ≡ partsOf i → shownAs p ≡ shownOf d
+shown-is {i = i} e f = ap shownAs f ∙ ap shownOf (sym e)
+
+pub shown-bad : {d : Decoded} → d ≡ Decoded.Bad → shown undecoded 0 0 0 0 0 0 ≡ shownOf d
+shown-bad e = ap shownOf (sym e)
+
+pub coined-fits : {m : Made} {w : Insn} → m ≡ Made.Fits w → coined 0 (w .bits) ≡ coinedOf m
+coined-fits e = rw e
+
+pub coined-refused : {m : Made} → m ≡ Made.Refused → coined noFit 0 ≡ coinedOf m
+coined-refused e = rw e
+
+pub ruleset reports = (report-done, report-refused, found-is, found-fault, shown-is, shown-bad, coined-fits, coined-refused)
 
 -- ---- the functions
 
@@ -61,3 +84,14 @@ compile-at ws p l n room cap slots e h f =
 
 pub found-at : (x : Result) (a : Answer) {f : Found} → resultOf a ≡ x → f ≡ foundOf (resultOf a) → f ≡ foundOf x
 found-at x a e h = rw (← e) h
+
+pub shown-at : (x : Decoded) {d : Decoded} {s : Shown} → d ≡ x → s ≡ shownOf d → s ≡ shownOf x
+shown-at x e h = h ∙ ap shownOf e
+
+pub coined-at : (x : Made) {m : Made} {c : Coined} → m ≡ x → c ≡ coinedOf m → c ≡ coinedOf x
+coined-at x e h = h ∙ ap coinedOf e
+
+pub patched-at : (x : Patched) {p : Patched} {n : ℕ} → p ≡ x → n ≡ patchedNumber p → n ≡ patchedNumber x
+patched-at x e h = h ∙ ap patchedNumber e
+
+pub ruleset functions = (check-at, compile-at, found-at, shown-at, coined-at, patched-at)

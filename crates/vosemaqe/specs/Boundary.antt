@@ -11,8 +11,16 @@ use Rattle.emit.specs.State.{Res, State}
 use Rattle.codegen.specs.Compile.{answered, padded, wordsOf, kindsOf, payloadsOf}
 use Rattle.codegen.specs.declared.compile.Compiled.{Compiled}
 use Rattle.codegen.specs.declared.compile.Compiled.the-variants.{Done, Refused}
+use Rattle.faults.specs.Numbers.{undecoded, noFit}
+use Rattle.insns.specs.declared.Insn.{Insn}
+use Rattle.insns.specs.declared.Made.{Made}
+use Rattle.decode.specs.declared.Decoded.{Decoded}
+use Rattle.parts.specs.Parts.{partsOf}
+use Rattle.parts.specs.declared.Parts.{Parts}
 use Rattle.vosemaqe.specs.declared.Report.{Report}
 use Rattle.vosemaqe.specs.declared.Found.{Found}
+use Rattle.vosemaqe.specs.declared.Shown.{Shown}
+use Rattle.vosemaqe.specs.declared.Coined.{Coined}
 
 -- a destination: 0 is none, r + 1 the register r
 unfoldable pub destOf : ℕ → Dest
@@ -43,3 +51,22 @@ found n k p = record { number = n; kind = k; payload = p }
 abbrev pub foundOf : Result → Found
 foundOf (Ops.is v) = found 0 (kindOf v) (payloadOf v)
 foundOf (Ops.fault n) = found n 0 0
+
+-- ---- decoding: number, opcode, five operands. Encoding: number, word
+
+abbrev pub shown : ℕ → ℕ → ℕ → ℕ → ℕ → ℕ → ℕ → Shown
+shown n o a b c d e = record { number = n; opcode = o; a = a; b = b; c = c; d = d; e = e }
+
+abbrev pub shownAs : Parts → Shown
+shownAs p = shown 0 (p .opcode) (p .a) (p .b) (p .c) (p .d) (p .e)
+
+abbrev pub shownOf : Decoded → Shown
+shownOf (Decoded.Is i) = shownAs (partsOf i)
+shownOf Decoded.Bad = shown undecoded 0 0 0 0 0 0
+
+abbrev pub coined : ℕ → ℕ → Coined
+coined n w = record { number = n; word = w }
+
+abbrev pub coinedOf : Made → Coined
+coinedOf (Made.Fits w) = coined 0 (w .bits)
+coinedOf Made.Refused = coined noFit 0

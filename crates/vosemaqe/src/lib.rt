@@ -1,6 +1,9 @@
 // The library for C and Rust callers. Each function does what the routine of its name does and gives what that gives, as numbers: the number
 // of the answer is returned, results are left in cells. include/vosemaqe.h is the manual.
 use codegen::compile::Compiled;
+use decode::Decoded;
+use decode::patch::Patched;
+use insns::Made;
 use table::Dest;
 use value::ops::Answer;
 ghost use mathlib.Core.Path.{_≡_};
@@ -12,7 +15,10 @@ ghost use Rattle.value.specs.Ops.{resultOf};
 ghost use Rattle.eval.specs.Evaluate.{evaluateOf};
 ghost use Rattle.codegen.specs.Compile.{compileOf};
 ghost use Rattle.machine.specs.Run.{out, ran, runOf, runPartOf};
-ghost use Rattle.vosemaqe.specs.Boundary.{destOf, report, reportOf, Compiles, found, foundOf};
+ghost use Rattle.decode.specs.Decode.{decodeOf};
+ghost use Rattle.decode.specs.Patch.{patchedNumber, patchOf};
+ghost use Rattle.parts.specs.Shapes.{encodeOf};
+ghost use Rattle.vosemaqe.specs.Boundary.{destOf, report, reportOf, Compiles, found, foundOf, shown, shownOf, coined, coinedOf};
 
 // What compiling leaves: the number, and the cells.
 struct Report {
@@ -28,6 +34,23 @@ struct Found {
     number: u8,
     kind: u64,
     payload: u64,
+}
+
+// What decoding leaves.
+struct Shown {
+    number: u8,
+    opcode: u64,
+    a: u64,
+    b: u64,
+    c: u64,
+    d: u64,
+    e: u64,
+}
+
+// What encoding leaves.
+struct Coined {
+    number: u8,
+    word: u64,
 }
 
 // A destination: 0 is none, r + 1 the register r.
@@ -75,6 +98,61 @@ fn found_of(a: Answer) -> Found
             kind: 0,
             payload: 0,
         },
+    }
+}
+
+fn shown_of(d: Decoded) -> Shown
+    ensures { λ r. ⌜ r ≡ shownOf d ⌝ }
+{
+    match d {
+        Decoded::Is(i) => {
+            let p = parts::parts_of(i);
+            Shown {
+                number: faults::NONE,
+                opcode: p.opcode,
+                a: p.a,
+                b: p.b,
+                c: p.c,
+                d: p.d,
+                e: p.e,
+            }
+        }
+        Decoded::Bad => Shown {
+            number: faults::UNDECODED,
+            opcode: 0,
+            a: 0,
+            b: 0,
+            c: 0,
+            d: 0,
+            e: 0,
+        },
+    }
+}
+
+fn coined_of(m: Made) -> Coined
+    ensures { λ r. ⌜ r ≡ coinedOf m ⌝ }
+{
+    match m {
+        Made::Fits(w) => Coined {
+            number: faults::NONE,
+            word: w.bits,
+        },
+        Made::Refused => Coined {
+            number: faults::NO_FIT,
+            word: 0,
+        },
+    }
+}
+
+fn patched_number(p: Patched) -> u8
+    ensures { λ r. ⌜ r ≡ patchedNumber p ⌝ }
+{
+    match p {
+        Patched::Done => faults::NONE,
+        Patched::NoWord => faults::NO_WORD,
+        Patched::Undecoded => faults::UNDECODED,
+        Patched::NotBranch => faults::NOT_BRANCH,
+        Patched::TooFar => faults::TOO_FAR,
     }
 }
 
@@ -235,4 +313,54 @@ pub extern "C" fn vosemaqe_run_part(
     *steps = r.steps;
     *position = r.position as u64;
     r.number
+}
+
+// The opcode and the operands of a word.
+#[no_mangle]
+pub extern "C" fn vosemaqe_decode(
+    word: u64,
+    opcode: &mut u64,
+    a: &mut u64,
+    b: &mut u64,
+    c: &mut u64,
+    d: &mut u64,
+    e: &mut u64,
+) -> u8
+    ensures { λ r. ⌜ shown r (now (opcode .exit)) (now (a .exit)) (now (b .exit)) (now (c .exit)) (now (d .exit)) (now (e .exit)) ≡ shownOf (decodeOf word) ⌝ }
+{
+    let s = shown_of(decode::decode(word));
+    *opcode = s.opcode;
+    *a = s.a;
+    *b = s.b;
+    *c = s.c;
+    *d = s.d;
+    *e = s.e;
+    s.number
+}
+
+// The word of an opcode and its operands.
+#[no_mangle]
+pub extern "C" fn vosemaqe_encode(
+    opcode: u64,
+    a: u64,
+    b: u64,
+    c: u64,
+    d: u64,
+    e: u64,
+    word: &mut u64,
+) -> u8
+    ensures { λ r. ⌜ coined r (now (word .exit)) ≡ coinedOf (encodeOf opcode a b c d e) ⌝ }
+{
+    let m = coined_of(parts::encode(opcode, a, b, c, d, e));
+    *word = m.word;
+    m.number
+}
+
+// Aims the branch at a position at a target.
+#[no_mangle]
+pub extern "C" fn vosemaqe_patch(words: &mut [u64], at: usize, target: u64) -> u8
+    ensures { λ r. ⌜ (r ≡ patchedNumber (patchOf (now (words .entry)) at target .answer)) × (now (words .exit) ≡ patchOf (now (words .entry)) at target .words) ⌝ }
+{
+    let p = decode::patch::patch(words, at, target);
+    patched_number(p)
 }

@@ -1,10 +1,10 @@
 -- `vosemaqe_compile_with` reports what `compile_with` answers. Assumes nothing.
 use borrow.Author.Needs.{needs}
-use Rattle.vosemaqe.proofs.Laws.{compile-at}
+use Rattle.vosemaqe.proofs.Laws.{functions}
 use Rattle.vosemaqe.proofs.vosemaqe_compile_with.Statement.{statement}
 use Rattle.vosemaqe.proofs.vosemaqe_compile_with.Tie as tie
 
-ruleset laws = (compile-at, needs)
+ruleset laws = (functions, needs)
 
 pub vosemaqe-compile-with-spec : {M : Type 1} → statement M
 vosemaqe-compile-with-spec = tie.close (tie.spec (λ c κs. search laws) (λ c κs. search laws) (λ c κs. search laws) (λ c. search laws) (λ c. search laws) (λ c. search laws) (λ c. search laws) (λ c. search laws))

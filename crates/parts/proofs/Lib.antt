@@ -1,0 +1,2 @@
+-- The laws that the proofs of `parts` cite.
+pub mod Laws

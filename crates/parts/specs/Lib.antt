@@ -1,0 +1,3 @@
+-- What the contracts of an instruction's numbers cite.
+pub mod Parts
+pub mod Shapes
