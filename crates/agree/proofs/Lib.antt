@@ -16,3 +16,4 @@ pub mod Consts
 pub mod Theorem
 pub mod Samples
 pub mod Places
+pub mod Entry

@@ -3,20 +3,22 @@ use mathlib.Core.Logic.{_≢_}
 use mathlib.Core.Path.{_≡_}
 use mathlib.Core.Bool.{true}
 use mathlib.Core.List.{List, _++_}
-use Prim.Native.Nat.{ℕ, _+_, _≤_, _<_, _^_}
+use Prim.Native.Nat.{ℕ, _+_, _≤_, _<_, _^_, min}
 use lib.ListN.{length, getD}
+use Rattle.faults.specs.Limits.{maxNodes}
 use Rattle.faults.specs.Numbers.{noRegister, noSlot, noRoom}
 use Rattle.value.specs.Value.{Datum, kindOf, payloadOf, allWell, datums}
 use Rattle.value.specs.Ops.{Result, is, fault}
-use Rattle.table.specs.Table.{tempBase}
+use Rattle.table.specs.Table.{tempBase, checkOf}
 use Rattle.table.specs.declared.Dest.{Dest}
 use Rattle.table.specs.declared.Dest.the-variants.{None, Reg}
 use Rattle.machine.specs.Effect.{size}
 use Rattle.eval.specs.Evaluate.{evaluateOf}
-use Rattle.machine.specs.Run.{Out, out, runOf}
+use Rattle.machine.specs.Run.{Out, out, ran, runOf}
 use Rattle.machine.specs.declared.run.Ran.{Ran}
-use Rattle.emit.specs.State.{done, State}
-use Rattle.codegen.specs.Compile.{compileOf}
+use Rattle.emit.specs.State.{Res, done, fail, State}
+use Rattle.codegen.specs.declared.compile.Compiled.{Compiled}
+use Rattle.codegen.specs.Compile.{compileOf, Compiles}
 
 -- ---- what goes in
 
@@ -28,10 +30,14 @@ pub record Accepted (ws : List ℕ) (params locals : ℕ) (dest : Dest) (r : ℕ
   pub slotCap : ℕ
   pub is : compileOf ws params locals dest places cap slotCap ≡ done (r, s)
 
+-- 64-bit words
+abbrev pub Wide : List ℕ → Type 0
+Wide ws = (i : ℕ) → getD ws i 0 < 2 ^ 64
+
 -- two lent lists of pairs hold values
 pub record Values (ks ps : List ℕ) : Type 0 where
   pub well : allWell ks ps ≡ true
-  pub words : (i : ℕ) → getD ps i 0 < 2 ^ 64
+  pub words : Wide ps
 
 -- the lent slots hold the constants, and behind them any values
 pub record Slots (constants : List Datum) (ks ps : List ℕ) : Type 0 where
@@ -122,3 +128,31 @@ pub data Lacks : ℕ → Type 0 where
   register : Lacks noRegister
   slot : Lacks noSlot
   room : Lacks noRoom
+
+-- ---- one call that compiles a table, evaluates it and runs its words
+
+-- The run, by what compiling gives: of an accepted table all its words, from word 0; of a refused one the number, no step, and the registers as they were.
+abbrev pub runAfter : Res (ℕ × State) → List ℕ → List ℕ → ℕ → List ℕ → List ℕ → Out
+runAfter (done x) sks sps budget ks ps = runOf (x .1 .words) sks sps budget 0 ks ps
+runAfter (fail n) sks sps budget ks ps = out (ran n 0 0) ks ps
+
+-- what 01 asks of the registers and the budget: every pair a value, room for the frame, a step for each word
+pub record Premises (s : State) (ks ps : List ℕ) (budget : ℕ) : Type 0 where
+  pub well : allWell ks ps ≡ true
+  pub room : s .frame ≤ size ks ps
+  pub steps : length (s .words) ≤ budget
+
+-- An accepted table: the run agrees with the tree. A refused one whose check passed: a register, a slot or room is wanting.
+abbrev pub Compared : Dest → ℕ → ℕ → Res (ℕ × State) → List ℕ → List ℕ → ℕ → Result → Out → Type 0
+Compared dest base check (done x) ks ps budget res o = Premises (x .1) ks ps budget → Agrees dest base (x .0) (x .1) ks ps res o
+Compared dest base check (fail n) ks ps budget res o = check ≡ 0 → Lacks n
+
+-- Lent: nodes, room for c words, k kinds and p payloads of constants, registers ks, ps, and a budget.
+-- Given back: compile's answer q, with the words and constants that it left; the tree's answer res; the run's report and registers, o.
+pub record Whole (nodes : List ℕ) (params locals : ℕ) (dest : Dest) (c k p : ℕ) (ks ps : List ℕ) (budget : ℕ) (q : Compiled) (code sks sps : List ℕ) (res : Result) (o : Out) : Type 0 where
+  pub m : Res (ℕ × State)
+  pub is : m ≡ compileOf nodes params locals dest maxNodes c (min k p)
+  pub compile : Compiles q m code sks sps c k p
+  pub tree : res ≡ evaluateOf nodes params locals ks ps
+  pub run : o ≡ runAfter m sks sps budget ks ps
+  pub agree : Compared dest (tempBase (params + locals)) (checkOf nodes params locals dest) m ks ps budget res o
