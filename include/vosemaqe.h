@@ -77,12 +77,12 @@ enum vosemaqe_number {
 #define VOSEMAQE_MAX_DEPTH 64
 #define VOSEMAQE_MAX_REGISTERS 65535
 
-/* What to lend. A compile of n nodes makes at most 4 * n words, at most n constants, and needs at most n / 2 places in a jump list; with
- * this much it is refused only for its table, or for registers (5). A run needs as many registers as the frame that compile reports. */
+/* What to lend. A compile of n nodes makes at most 4 * n words, at most n constants, and needs at most (n + 1) / 2 places in a jump list;
+ * with this much it is refused only for its table, or for registers (5). A run needs as many registers as the frame that compile reports. */
 #define VOSEMAQE_NODE_WORDS 4
 #define VOSEMAQE_WORDS_FOR(nodes) (4 * (nodes))
 #define VOSEMAQE_SLOTS_FOR(nodes) (nodes)
-#define VOSEMAQE_JUMPS_FOR(nodes) ((nodes) / 2)
+#define VOSEMAQE_JUMPS_FOR(nodes) (((nodes) + 1) / 2)
 
 /* The kinds of a value. */
 enum vosemaqe_value { VOSEMAQE_NIL = 0, VOSEMAQE_BOOL = 1, VOSEMAQE_INT = 2, VOSEMAQE_FLOAT = 3 };

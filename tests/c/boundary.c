@@ -69,18 +69,19 @@ static uint64_t code[4 * (VOSEMAQE_MAX_NODES + 1)], slot_payloads[70];
 static uint8_t slot_kinds[70];
 
 static void compile(uint64_t params, uint64_t dest, size_t room, size_t slots, int with) {
-    uint64_t *cells = lend(NULL, 32), *nodes = lend(T, 32 * N), *w = lend(NULL, 8 * room), *p = lend(NULL, 8 * slots), *j = lend(NULL, 8 * 2048);
+    uint64_t *cells = lend(NULL, 32), *nodes = lend(T, 32 * N), *w = lend(NULL, 8 * room), *p = lend(NULL, 8 * slots), *j;
+    size_t jumps = VOSEMAQE_JUMPS_FOR(N);
     uint8_t *k = lend(NULL, slots + 1);
+    j = lend(NULL, 8 * jumps);
     C.number = with
-        ? vosemaqe_compile_with(nodes, 4 * N, params, 0, dest, w, room, k, slots + 1, p, slots, j, 2048, cells, cells + 1, cells + 2, cells + 3)
+        ? vosemaqe_compile_with(nodes, 4 * N, params, 0, dest, w, room, k, slots + 1, p, slots, j, jumps, cells, cells + 1, cells + 2, cells + 3)
         : vosemaqe_compile(nodes, 4 * N, 0, params, dest, w, room, k, slots + 1, p, slots, cells, cells + 1, cells + 2, cells + 3);
     C.words = cells[0]; C.slots = cells[1]; C.reg = cells[2]; C.frame = cells[3];
     memcpy(code, w, 8 * room); memcpy(slot_kinds, k, slots); memcpy(slot_payloads, p, 8 * slots);
     EXPECT(C.words <= room && C.slots <= slots);
     EXPECT(zero(w + C.words, 8 * (room - C.words)) && zero(k + C.slots, slots + 1 - C.slots) && zero(p + C.slots, 8 * (slots - C.slots)));
     EXPECT(C.number == 0 || zero(cells, 32));
-    if (with) EXPECT(zero(j, 8 * 2048));
-    else for (size_t i = 0; i < 8 * 2048; i++) if (((unsigned char *)j)[i] != 0x5A) { EXPECT(!"jumps untouched"); break; }
+    EXPECT(!with || zero(j, 8 * jumps));
     EXPECT(vosemaqe_check(nodes, 4 * N, params, 0, dest) == C.number || C.number == 5 || C.number == 6 || C.number == 7);
     EXPECT(kept());
 }
@@ -241,6 +242,8 @@ int main(void) {
     /* 13: shifts */
     ref(0); num(63); over(VOSEMAQE_NODE_LSHIFT, 2); EXPECT(compiles(1, 0) == 0 && shape(1, 0, 1, 2) && is(code[0], VOSEMAQE_OP_LSHIFT_IMM, 1, 0, 63, 0, 0));
     ref(0); num(64); over(VOSEMAQE_NODE_LSHIFT, 2); gives(1, INTS(1), VOSEMAQE_BAD_SHIFT, 0, 0);
+    /* a || b as a value: two jumps pending in a list of two */
+    ref(0); ref(1); over(VOSEMAQE_NODE_OR, 2); gives(2, (const uint8_t[]){1, 1}, (const uint64_t[]){0, 1}, 0, VOSEMAQE_BOOL, 1);
     /* 14: a lone Ref */
     ref(0); EXPECT(compiles(1, 0) == 0 && shape(0, 0, 0, 1));
     run(INTS(7), 1, 0); EXPECT(R.number == 0 && R.steps == 0 && R.position == 0 && R.kind == VOSEMAQE_INT && R.payload == 7);

@@ -1,0 +1,289 @@
+//! Safe calls of `libvosemaqe.a`, whose functions are proved: node tables are checked, compiled to instruction words, evaluated and run.
+//! `include/vosemaqe.h` says what each function gives on every input; here a number that is not 0 is an [`Error`].
+//!
+//! Nothing allocates. The caller lends slices, and a borrow is all that the library asks of them: lengths may be anything, contents too.
+//!
+//! ```
+//! use vosemaqe::{compile, evaluate, run, Value};
+//! // a < b ? 1 : 2, four words a node: kind, payload, first, depth
+//! let table = [5, 0, 0, 1,  5, 1, 1, 1,  20, 0, 0, 2,  3, 1, 3, 1,  3, 2, 4, 1,  26, 0, 0, 3];
+//! let (mut code, mut slot_kinds, mut slot_payloads) = ([0; 24], [0; 6], [0; 6]);
+//! let made = compile(&table, 2, 0, None, &mut code, &mut slot_kinds, &mut slot_payloads)?;
+//! assert_eq!((made.words, made.slots, made.register, made.frame), (4, 0, 2, 3));
+//!
+//! // a = 3, b = 4: both Ints
+//! let (mut kinds, mut payloads) = ([2, 2, 0], [3, 4, 0]);
+//! assert_eq!(evaluate(&table, 2, 0, &kinds, &payloads)?, Value::Int(1));
+//! let ran = run(&code[..made.words], 0, &mut kinds, &mut payloads, &[], &[], 4).expect("done");
+//! assert_eq!((ran.steps, ran.position), (3, 4));
+//! assert_eq!(Value::from_pair(kinds[2], payloads[2]), Some(Value::Int(1)));
+//! # Ok::<(), vosemaqe::Error>(())
+//! ```
+#![deny(missing_docs)]
+#![allow(clippy::too_many_arguments)]
+
+pub mod ffi;
+
+macro_rules! errors {
+    ($($name:ident = $number:literal, $what:literal;)*) => {
+        /// Why something was refused, or stopped.
+        #[derive(Debug, Clone, Copy, PartialEq, Eq, Hash)]
+        #[non_exhaustive]
+        #[repr(u8)]
+        pub enum Error { $(#[doc = $what] $name = $number),* }
+
+        impl Error {
+            /// The number, as the C boundary gives it.
+            pub fn number(self) -> u8 { self as u8 }
+            fn of(number: u8) -> Option<Error> { match number { $($number => Some(Error::$name),)* _ => None } }
+        }
+
+        impl std::fmt::Display for Error {
+            fn fmt(&self, f: &mut std::fmt::Formatter<'_>) -> std::fmt::Result { f.write_str(match self { $(Error::$name => $what),* }) }
+        }
+    };
+}
+
+errors! {
+    BadShape = 1, "table empty, not a multiple of 4 words, or over 4,096 nodes";
+    BadNode = 2, "unknown kind, non-zero payload, missing child, wrong first or depth, or last node's first not 0";
+    TooDeep = 3, "depth over 64";
+    NotLocal = 4, "Ref or destination not below the base";
+    NoRegister = 5, "parameters plus locals, or an allocation, pass 65,535 registers";
+    NoSlot = 6, "no constant slot left";
+    NoRoom = 7, "no room for a word, or for a jump in a lent jump list";
+    TooFar = 8, "displacement outside its field when patching";
+    NoFit = 9, "an operand does not fit its field, or no such opcode";
+    Undecoded = 10, "a word that does not decode";
+    NotBranch = 11, "patching: not a branch";
+    NoWord = 12, "patching: no word at the branch position";
+    WrongKind = 20, "wrong kind of value";
+    Overflow = 21, "integer result outside 64 bits signed";
+    ModByZero = 22, "Mod by zero";
+    NotExact = 23, "Int outside -2^53..2^53 meets a Float, or stands in Div";
+    BadShift = 24, "shift amount outside 0..63";
+    BudgetSpent = 25, "budget spent";
+    OutOfRange = 26, "register, slot, start, part or taken target out of range, or fewer locals than the base";
+    PanicWord = 27, "panic word";
+    NotRun = 28, "opcode not run here";
+    IllFormed = 29, "ill-formed value lent";
+}
+
+impl std::error::Error for Error {}
+
+/// `Ok` for 0. Every other number that the library gives is an `Error`'s.
+fn done(number: u8) -> Result<(), Error> {
+    if number == 0 { return Ok(()); }
+    Err(Error::of(number).unwrap_or_else(|| unreachable!("no number of the library: {number}")))
+}
+
+/// A value. It is lent as a pair: a kind byte and a 64-bit payload.
+#[derive(Debug, Clone, Copy, PartialEq)]
+pub enum Value {
+    /// kind 0, payload 0
+    Nil,
+    /// kind 1, payload 0 or 1
+    Bool(bool),
+    /// kind 2, payload two's complement
+    Int(i64),
+    /// kind 3, payload its bits
+    Float(f64),
+}
+
+impl Value {
+    /// The kind and the payload.
+    ///
+    /// ```
+    /// # use vosemaqe::Value;
+    /// assert_eq!(Value::Int(-1).pair(), (2, u64::MAX));
+    /// assert_eq!(Value::from_pair(1, 2), None);
+    /// ```
+    pub fn pair(self) -> (u8, u64) {
+        match self {
+            Value::Nil => (0, 0),
+            Value::Bool(b) => (1, b as u64),
+            Value::Int(n) => (2, n as u64),
+            Value::Float(x) => (3, x.to_bits()),
+        }
+    }
+
+    /// The value of a pair, if it is well-formed.
+    pub fn from_pair(kind: u8, payload: u64) -> Option<Value> {
+        match (kind, payload) {
+            (0, 0) => Some(Value::Nil),
+            (1, 0 | 1) => Some(Value::Bool(payload == 1)),
+            (2, n) => Some(Value::Int(n as i64)),
+            (3, bits) => Some(Value::Float(f64::from_bits(bits))),
+            _ => None,
+        }
+    }
+}
+
+/// What compiling gives.
+#[derive(Debug, Clone, Copy, PartialEq, Eq)]
+pub struct Compiled {
+    /// how many words
+    pub words: usize,
+    /// how many constants
+    pub slots: usize,
+    /// the register that holds the value after a run
+    pub register: usize,
+    /// how many registers a run needs
+    pub frame: usize,
+}
+
+/// How far a run came.
+#[derive(Debug, Clone, Copy, PartialEq, Eq)]
+pub struct Ran {
+    /// steps taken
+    pub steps: u64,
+    /// the stopping word's position, or the number of words when done
+    pub position: usize,
+}
+
+/// A run that stopped: why, and where. The stopping step is not counted, and wrote nothing.
+#[derive(Debug, Clone, Copy, PartialEq, Eq)]
+pub struct Stopped {
+    /// why
+    pub error: Error,
+    /// how far it came
+    pub ran: Ran,
+}
+
+impl std::fmt::Display for Stopped {
+    fn fmt(&self, f: &mut std::fmt::Formatter<'_>) -> std::fmt::Result { write!(f, "{} at word {}", self.error, self.ran.position) }
+}
+
+impl std::error::Error for Stopped {}
+
+/// An instruction as numbers: its opcode, and its operands in declared order, 0 where it has fewer.
+#[derive(Debug, Clone, Copy, PartialEq, Eq)]
+pub struct Instruction {
+    /// 0 to 76
+    pub opcode: u64,
+    /// signed ones are negative below 0
+    pub operands: [i64; 5],
+}
+
+/// 0 for none, r + 1 for register r. A register of 2^64 - 1 is over every limit, and so is the one before it.
+fn dest_of(dest: Option<u64>) -> u64 { dest.map_or(0, |r| r.saturating_add(1)) }
+
+/// Whether a table would be compiled, given room: its number is the check's.
+pub fn check(nodes: &[u64], params: u64, locals: u64, dest: Option<u64>) -> Result<(), Error> {
+    // SAFETY: the slice is valid for its length, and only read.
+    done(unsafe { ffi::vosemaqe_check(nodes.as_ptr(), nodes.len(), params, locals, dest_of(dest)) })
+}
+
+/// Compiles a table into lent words and constants; what follows them is zeroed, all of it on a refusal. At most four words and one constant a node.
+pub fn compile(nodes: &[u64], params: u64, locals: u64, dest: Option<u64>, code: &mut [u64], slot_kinds: &mut [u8], slot_payloads: &mut [u64]) -> Result<Compiled, Error> {
+    let (mut words, mut slots, mut reg, mut frame) = (0, 0, 0, 0);
+    // SAFETY: each slice is valid for its length; those written are lent as `&mut`, so nothing overlaps them.
+    done(unsafe {
+        ffi::vosemaqe_compile(
+            nodes.as_ptr(), nodes.len(), params, locals, dest_of(dest), code.as_mut_ptr(), code.len(), slot_kinds.as_mut_ptr(), slot_kinds.len(),
+            slot_payloads.as_mut_ptr(), slot_payloads.len(), &mut words, &mut slots, &mut reg, &mut frame,
+        )
+    })?;
+    Ok(Compiled { words: words as usize, slots: slots as usize, register: reg as usize, frame: frame as usize })
+}
+
+/// The same with a lent jump list, at most half as many places as nodes, rounded up, which is left zero: `NoRoom` where it runs out.
+///
+/// ```
+/// # use vosemaqe::*;
+/// let either = [5, 0, 0, 1,  5, 1, 1, 1,  25, 0, 0, 2]; // a || b
+/// let (mut code, mut jumps) = ([0; 12], [7; 2]);
+/// assert_eq!(compile_with(&either, 2, 0, Some(0), &mut code, &mut [], &mut [], &mut jumps).map(|c| c.register), Ok(0));
+/// assert_eq!(compile_with(&either, 2, 0, None, &mut code, &mut [], &mut [], &mut []), Err(Error::NoRoom));
+/// assert_eq!((code, jumps), ([0; 12], [0; 2]));
+/// ```
+pub fn compile_with(nodes: &[u64], params: u64, locals: u64, dest: Option<u64>, code: &mut [u64], slot_kinds: &mut [u8], slot_payloads: &mut [u64], jumps: &mut [u64]) -> Result<Compiled, Error> {
+    let (mut words, mut slots, mut reg, mut frame) = (0, 0, 0, 0);
+    // SAFETY: as for `compile`.
+    done(unsafe {
+        ffi::vosemaqe_compile_with(
+            nodes.as_ptr(), nodes.len(), params, locals, dest_of(dest), code.as_mut_ptr(), code.len(), slot_kinds.as_mut_ptr(), slot_kinds.len(),
+            slot_payloads.as_mut_ptr(), slot_payloads.len(), jumps.as_mut_ptr(), jumps.len(), &mut words, &mut slots, &mut reg, &mut frame,
+        )
+    })?;
+    Ok(Compiled { words: words as usize, slots: slots as usize, register: reg as usize, frame: frame as usize })
+}
+
+/// The value of a table on its locals, by its tree and not by its words.
+pub fn evaluate(nodes: &[u64], params: u64, locals: u64, kinds: &[u8], payloads: &[u64]) -> Result<Value, Error> {
+    let (mut kind, mut payload) = (0, 0);
+    // SAFETY: the slices are valid for their lengths, and only read.
+    done(unsafe { ffi::vosemaqe_evaluate(nodes.as_ptr(), nodes.len(), params, locals, kinds.as_ptr(), kinds.len(), payloads.as_ptr(), payloads.len(), &mut kind, &mut payload) })?;
+    Ok(Value::from_pair(kind as u8, payload).unwrap_or_else(|| unreachable!("the library gives well-formed values")))
+}
+
+fn ran(number: u8, steps: u64, position: u64) -> Result<Ran, Stopped> {
+    let ran = Ran { steps, position: position as usize };
+    done(number).map(|()| ran).map_err(|error| Stopped { error, ran })
+}
+
+/// Runs words from a start, 0 for a compiled expression, on lent registers and slots, at most `budget` steps.
+pub fn run(words: &[u64], start: usize, kinds: &mut [u8], payloads: &mut [u64], slot_kinds: &[u8], slot_payloads: &[u64], budget: u64) -> Result<Ran, Stopped> {
+    let (mut steps, mut position) = (0, 0);
+    // SAFETY: as for `compile`.
+    let number = unsafe {
+        ffi::vosemaqe_run(
+            words.as_ptr(), words.len(), start, kinds.as_mut_ptr(), kinds.len(), payloads.as_mut_ptr(), payloads.len(),
+            slot_kinds.as_ptr(), slot_kinds.len(), slot_payloads.as_ptr(), slot_payloads.len(), budget, &mut steps, &mut position,
+        )
+    };
+    ran(number, steps, position)
+}
+
+/// Runs the words of a store from `entry` to `end`; the position counts from the entry.
+pub fn run_part(store: &[u64], entry: usize, end: usize, kinds: &mut [u8], payloads: &mut [u64], slot_kinds: &[u8], slot_payloads: &[u64], budget: u64) -> Result<Ran, Stopped> {
+    let (mut steps, mut position) = (0, 0);
+    // SAFETY: as for `compile`.
+    let number = unsafe {
+        ffi::vosemaqe_run_part(
+            store.as_ptr(), store.len(), entry, end, kinds.as_mut_ptr(), kinds.len(), payloads.as_mut_ptr(), payloads.len(),
+            slot_kinds.as_ptr(), slot_kinds.len(), slot_payloads.as_ptr(), slot_payloads.len(), budget, &mut steps, &mut position,
+        )
+    };
+    ran(number, steps, position)
+}
+
+/// The opcode and the operands of a word.
+///
+/// ```
+/// # use vosemaqe::*;
+/// let i = decode(5_497_558_139_159)?; // add_imm16 1, 0, 5
+/// assert_eq!((i.opcode, i.operands), (23, [1, 0, 5, 0, 0]));
+/// assert_eq!(encode(i)?, 5_497_558_139_159);
+/// assert_eq!(decode(77), Err(Error::Undecoded));
+/// assert_eq!(encode(Instruction { opcode: 23, operands: [1, 0, 32_768, 0, 0] }), Err(Error::NoFit));
+/// # Ok::<(), Error>(())
+/// ```
+pub fn decode(word: u64) -> Result<Instruction, Error> {
+    let (mut opcode, [mut a, mut b, mut c, mut d, mut e]) = (0, [0; 5]);
+    // SAFETY: the cells are locals.
+    done(unsafe { ffi::vosemaqe_decode(word, &mut opcode, &mut a, &mut b, &mut c, &mut d, &mut e) })?;
+    Ok(Instruction { opcode, operands: [a, b, c, d, e].map(|x| x as i64) })
+}
+
+/// The word of an instruction, the inverse of [`decode`].
+pub fn encode(i: Instruction) -> Result<u64, Error> {
+    let (mut word, [a, b, c, d, e]) = (0, i.operands.map(|x| x as u64));
+    // SAFETY: the cell is a local.
+    done(unsafe { ffi::vosemaqe_encode(i.opcode, a, b, c, d, e, &mut word) })?;
+    Ok(word)
+}
+
+/// Aims the branch at a position at a target. Changes one word, or none.
+///
+/// ```
+/// # use vosemaqe::*;
+/// let mut words = [65; 2]; // jmp 0
+/// assert_eq!(patch(&mut words, 1, 0), Ok(()));
+/// assert_eq!(decode(words[1]).map(|i| i.operands[0]), Ok(-2));
+/// assert_eq!(patch(&mut words, 2, 0), Err(Error::NoWord));
+/// ```
+pub fn patch(words: &mut [u64], at: usize, target: u64) -> Result<(), Error> {
+    // SAFETY: the slice is valid for its length, and lent as `&mut`.
+    done(unsafe { ffi::vosemaqe_patch(words.as_mut_ptr(), words.len(), at, target) })
+}
