@@ -1,12 +1,10 @@
 /* Times the proved machine against the plain one in one process, in turns, and prints nanoseconds a step and their ratio.
    Both must leave the same answer and the same registers. */
 #include "plain.h"
+#include "vosemaqe.h"
 #include <stdio.h>
 #include <string.h>
 #include <time.h>
-
-uint8_t machine_run(const uint64_t *words, uint64_t len, uint8_t *kinds, uint64_t nk, uint64_t *payloads, uint64_t np,
-    const uint8_t *skinds, uint64_t nsk, const uint64_t *spayloads, uint64_t nsp, uint64_t budget, uint64_t *steps, uint64_t *position);
 
 #define W(op, a, b, c) ((uint64_t)(op) | (uint64_t)(a) << 8 | (uint64_t)(b) << 24 | (uint64_t)(c) << 40)
 #define IMM40(d, raw) (3ull | (uint64_t)(d) << 8 | (uint64_t)(raw) << 24)
@@ -27,7 +25,7 @@ static double turn(const struct job *j, int plain, uint8_t *kinds, uint64_t *pay
         if (plain) {
             struct ran r = plain_run(j->words, j->count, 0, kinds, REGS, payloads, REGS, sk, 1, sp, 1, j->budget);
             report[0] = r.number; report[1] = r.steps; report[2] = r.position;
-        } else report[0] = machine_run(j->words, j->count, kinds, REGS, payloads, REGS, sk, 1, sp, 1, j->budget, report + 1, report + 2);
+        } else report[0] = vosemaqe_run(j->words, j->count, 0, kinds, REGS, payloads, REGS, sk, 1, sp, 1, j->budget, report + 1, report + 2);
         steps += report[1];
     }
     return (now() - t) * 1e9 / steps;
