@@ -140,6 +140,26 @@ module _ (ws : List ℕ) (params locals : ℕ) (dest : Dest) (room cap slotCap :
 pub compiles-by : {q : Compiled} {g g' : Res (ℕ × State)} {c k p : List ℕ} {lc lk lp : ℕ} → g ≡ g' → Compiles q g c k p lc lk lp → Compiles q g' c k p lc lk lp
 compiles-by {q} {c = c} {k = k} {p = p} {lc = lc} {lk = lk} {lp = lp} e h = subst (λ (y : Res (ℕ × State)). Compiles q y c k p lc lk lp) e h
 
+-- the ways out of an entry, each as the definition says: refused by the check, or with what is generated
+module _ (ws : List ℕ) (params locals : ℕ) (dest : Dest) {f : ℕ} (check : f ≡ checkOf ws params locals dest) (cap slotCap : ℕ) {lc lk lp : ℕ} {q : Compiled} {c k p : List ℕ} where
+  pub out-refused : (room : ℕ) → (f ≡ 0 → ⊥) → Compiles q (fail f) c k p lc lk lp → Compiles q (compileOf ws params locals dest room cap slotCap) c k p lc lk lp
+  out-refused room h = compiles-by (check-refused ws params locals dest room cap slotCap check h)
+
+  pub out-passed : (room : ℕ) → f ≡ 0 → Compiles q (generated (tree ws (nodeCount ws - 1)) dest (params + locals) room cap slotCap) c k p lc lk lp → Compiles q (compileOf ws params locals dest room cap slotCap) c k p lc lk lp
+  out-passed room h = compiles-by (check-passed ws params locals dest room cap slotCap check h)
+
+  -- a list that comes with the entry does not run out
+  pub out-roomy : (places : ℕ) → f ≡ 0 → nodeCount ws ≤ 2 * places → Compiles q (generated (tree ws (nodeCount ws - 1)) dest (params + locals) places cap slotCap) c k p lc lk lp →
+      Compiles q (compileOf ws params locals dest maxNodes cap slotCap) c k p lc lk lp
+  out-roomy places h few m =
+      compiles-by (enough ws params locals dest places cap slotCap (sym check ∙ h) few ∙ check-passed ws params locals dest maxNodes cap slotCap check h) m
+
+  pub out-all : (places : ℕ) → f ≡ 0 → maxNodes ≤ 2 * places → Compiles q (generated (tree ws (nodeCount ws - 1)) dest (params + locals) places cap slotCap) c k p lc lk lp →
+      Compiles q (compileOf ws params locals dest maxNodes cap slotCap) c k p lc lk lp
+  out-all places h all = let a = accepted-table ws params locals dest (sym check ∙ h) .few in out-roomy places h (omega arith)
+
+pub ruleset outs = (out-refused, out-passed)
+
 -- zeros from the first place on
 pub all-zeroed : (l : List ℕ) {now : List ℕ} {n : ℕ} → now ≡ zeroed 0 l → length l ≡ n → now ≡ replicate {A = ℕ} n 0
 all-zeroed l {now} {n} e h =

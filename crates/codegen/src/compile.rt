@@ -179,58 +179,14 @@ fn generate(
     }
 }
 
-fn generate_small(
-    nodes: &[u64],
-    params: u64,
-    locals: u64,
-    dest: Dest,
-    code: &mut [u64],
-    kinds: &mut [u8],
-    payloads: &mut [u64],
-) -> Compiled
-    requires { ⌜ checkOf (now nodes) params locals dest ≡ 0 ⌝ }
-    requires { ⌜ nodeCount (now nodes) ≤ 64 ⌝ }
-    ensures { λ q. ⌜ Compiles q (generated (tree (now (nodes .entry)) (nodeCount (now (nodes .entry)) - 1)) dest (params + locals) maxNodes (length (now (code .entry))) (min (length (now (kinds .entry))) (length (now (payloads .entry))))) (now (code .exit)) (now (kinds .exit)) (now (payloads .exit)) (length (now (code .entry))) (length (now (kinds .entry))) (length (now (payloads .entry))) ⌝ }
-{
-    let mut jumps = [0u64; 32];
-    generate(
-        nodes,
-        params,
-        locals,
-        dest,
-        code,
-        kinds,
-        payloads,
-        &mut jumps,
-    )
-}
+// Half as many places as a table has nodes are enough for its jumps. A table of at most SMALL nodes gets a list that is cleared sooner.
+const SMALL: usize = 64;
 
-fn generate_large(
-    nodes: &[u64],
-    params: u64,
-    locals: u64,
-    dest: Dest,
-    code: &mut [u64],
-    kinds: &mut [u8],
-    payloads: &mut [u64],
-) -> Compiled
-    requires { ⌜ checkOf (now nodes) params locals dest ≡ 0 ⌝ }
-    ensures { λ q. ⌜ Compiles q (generated (tree (now (nodes .entry)) (nodeCount (now (nodes .entry)) - 1)) dest (params + locals) maxNodes (length (now (code .entry))) (min (length (now (kinds .entry))) (length (now (payloads .entry))))) (now (code .exit)) (now (kinds .exit)) (now (payloads .exit)) (length (now (code .entry))) (length (now (kinds .entry))) (length (now (payloads .entry))) ⌝ }
-{
-    let mut jumps = [0u64; 2048];
-    generate(
-        nodes,
-        params,
-        locals,
-        dest,
-        code,
-        kinds,
-        payloads,
-        &mut jumps,
-    )
-}
+const SMALL_JUMPS: usize = SMALL / 2;
 
-// Compiles a node table. A jump list with room for every accepted table comes with it: half as many places as there are nodes are enough.
+const ALL_JUMPS: usize = faults::MAX_NODES / 2;
+
+// Compiles a node table. A jump list with room for every accepted table comes with it.
 pub fn compile(
     nodes: &[u64],
     params: u64,
@@ -246,10 +202,21 @@ pub fn compile(
     if f != faults::NONE {
         return refuse(f, code, kinds, payloads);
     }
-    if nodes.len() / 4 <= 64 {
-        return generate_small(nodes, params, locals, dest, code, kinds, payloads);
+    if nodes.len() / 4 <= SMALL {
+        let mut few = [0u64; SMALL_JUMPS];
+        return generate(nodes, params, locals, dest, code, kinds, payloads, &mut few);
     }
-    generate_large(nodes, params, locals, dest, code, kinds, payloads)
+    let mut jumps = [0u64; ALL_JUMPS];
+    generate(
+        nodes,
+        params,
+        locals,
+        dest,
+        code,
+        kinds,
+        payloads,
+        &mut jumps,
+    )
 }
 
 // The same with a jump list of the caller's, which is zeroed at the end: 7 where it runs out.
