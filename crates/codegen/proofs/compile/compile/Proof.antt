@@ -7,13 +7,18 @@ use Rattle.codegen.proofs.compile.compile.Tie as tie
 
 with-few : tie.Need-returns-2
 with-few c =
-    let g = c .before .before .before .before .before .before .before .before .before .before .before .before .before .before .before .before .before .before .before in
-    out-roomy (g .args .nodes .now) (g .args .params) (g .args .locals) (g .args .dest) (c .before .before .before .before .before .before .before .before .before .before .before .before .before .before .check .ensures) _ _ 32 (c .before .before .before .before .before .before .before .before .before .before .before .before .before .if1 .left) (omega (arith, c .before .before .before .before .before .before .before .before .before .before .before .before .if2 .taken)) (c .before .before .before .before .before .before .before .generate .ensures)
+    let made = c .before .before .before .before .before .before .before in
+    let small = made .before .before .before .before .before in
+    let passed = small .before in
+    let called = passed .before .before .before .before .before .before in
+    out-roomy (called .args .nodes .now) (called .args .params) (called .args .locals) (called .args .dest) (passed .before .check .ensures) _ _ 32 (passed .if1 .left) (omega (arith, small .if2 .taken)) (made .generate .ensures)
 
 with-all : tie.Need-returns-3
 with-all c =
-    let g = c .before .before .before .before .before .before .before .before .before .before .before .before .before .before .before .before .before .before .before in
-    out-all (g .args .nodes .now) (g .args .params) (g .args .locals) (g .args .dest) (c .before .before .before .before .before .before .before .before .before .before .before .before .before .before .check .ensures) _ _ 2048 (c .before .before .before .before .before .before .before .before .before .before .before .before .before .if1 .left) (omega arith) (c .before .before .before .before .before .before .before .generate2 .ensures)
+    let made = c .before .before .before .before .before .before .before in
+    let passed = made .before .before .before .before .before .before in
+    let called = passed .before .before .before .before .before .before in
+    out-all (called .args .nodes .now) (called .args .params) (called .args .locals) (called .args .dest) (passed .before .check .ensures) _ _ 2048 (passed .if1 .left) (omega arith) (made .generate2 .ensures)
 
 pub compile-spec : {M : Type 1} → statement M
 compile-spec =
