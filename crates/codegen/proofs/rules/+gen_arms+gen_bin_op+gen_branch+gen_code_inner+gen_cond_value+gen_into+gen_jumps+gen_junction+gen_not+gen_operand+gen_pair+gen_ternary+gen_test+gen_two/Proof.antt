@@ -1,15 +1,14 @@
 -- The one proof of the cycle of calls: each member is proved in a file of its own, below this one. Assumes nothing.
 mod Measures
+mod Calls
 mod GenArms
 mod GenBinOp
 mod GenBranch
 mod GenCodeInner
 mod GenCondValue
 mod GenInto
-mod GenJumps
 mod GenJunction
 mod GenNot
-mod GenOperand
 mod GenPair
 mod GenTernary
 mod GenTest
@@ -23,10 +22,9 @@ use GenBranch.{gen-branch-holds}
 use GenCodeInner.{gen-code-inner-holds}
 use GenCondValue.{gen-cond-value-holds}
 use GenInto.{gen-into-holds}
-use GenJumps.{gen-jumps-holds}
 use GenJunction.{gen-junction-holds}
 use GenNot.{gen-not-holds}
-use GenOperand.{gen-operand-holds}
+use Calls.{gen-jumps-holds, gen-operand-holds}
 use GenPair.{gen-pair-holds}
 use GenTernary.{gen-ternary-holds}
 use GenTest.{gen-test-holds}

@@ -19,48 +19,12 @@ module _ (t : ℕ) where
   abbrev cl : lts.Claims
   cl = (child-2-reads.Asked, child-2-reads.Learnt, gen-into-below t, gen-into.Post, turn-reads.Asked, turn-reads.Learnt, child-1-reads.Asked, child-1-reads.Learnt, settle-reads.Asked, settle-reads.Learnt)
 
-  mul-gen-into : lts.Need-mul-gen-into cl (gen-arms-at t) gen-arms.Post
-  mul-gen-into c = search rules
-
-  sub-gen-into : lts.Need-sub-gen-into cl (gen-arms-at t) gen-arms.Post
-  sub-gen-into c = search rules
-
-  part-gen-into-start : lts.Need-part-gen-into-start cl (gen-arms-at t) gen-arms.Post
-  part-gen-into-start c = search rules
-
-  part-gen-into-end : lts.Need-part-gen-into-end cl (gen-arms-at t) gen-arms.Post
-  part-gen-into-end c = search rules
-
-  child-2-requires : lts.Need-child-2-requires cl (gen-arms-at t) gen-arms.Post
-  child-2-requires c κs = search rules
-
-  gen-into-requires : lts.Need-gen-into-requires cl (gen-arms-at t) gen-arms.Post
-  gen-into-requires c κs = search rules
-
-  enum-known-x : lts.Need-enum-known-x cl (gen-arms-at t) gen-arms.Post
-  enum-known-x c = search rules
-
-  enum-told : lts.Need-enum-told cl (gen-arms-at t) gen-arms.Post
-  enum-told c = search rules
-
-  same-length : lts.Need-same-length cl (gen-arms-at t) gen-arms.Post
-  same-length c = search rules
-
-  same-length-2 : lts.Need-same-length-2 cl (gen-arms-at t) gen-arms.Post
-  same-length-2 c = search rules
-
-  same-length-3 : lts.Need-same-length-3 cl (gen-arms-at t) gen-arms.Post
-  same-length-3 c = search rules
-
   returns : lts.Need-returns cl (gen-arms-at t) gen-arms.Post
   returns c =
       let c1 = c .before .before .before .before .before .before .before .before in
       let c2 = c1 .before in
       let c3 = c2 .before .before .before .before .before .before .before .before in
       arms-stop _ _ _ _ (c2 .child-2 .ensures) (rest-room (c3 .args .n) (c3 .args .jumps .now) (c3 .pre .1 .2) refl) (c1 .gen-into .ensures) (c .enum-told .given .1)
-
-  slice-reshare-prefix-turn : lts.Need-slice-reshare-prefix-turn cl (gen-arms-at t) gen-arms.Post
-  slice-reshare-prefix-turn c = search rules
 
   slice-aggregate-turn : lts.Need-slice-aggregate-turn cl (gen-arms-at t) gen-arms.Post
   slice-aggregate-turn c =
@@ -69,22 +33,10 @@ module _ (t : ℕ) where
       prefix _ _ (front-in (c2 .args .n) (c2 .args .jumps .now) (c1 .gen-into .last .1 .1 .1 .0) (c2 .pre .1 .2))
 
   turn-requires : lts.Need-turn-requires cl (gen-arms-at t) gen-arms.Post
-  turn-requires c κs = kept (c .before .before .before .x .given .1) (c .before .before .before .before .before .before .before .before .before .before .before .gen-into .ensures) .words
-
-  enum-known-y : lts.Need-enum-known-y cl (gen-arms-at t) gen-arms.Post
-  enum-known-y c = search rules
-
-  enum-told-2 : lts.Need-enum-told-2 cl (gen-arms-at t) gen-arms.Post
-  enum-told-2 c = search rules
-
-  same-length-4 : lts.Need-same-length-4 cl (gen-arms-at t) gen-arms.Post
-  same-length-4 c = search rules
-
-  same-length-5 : lts.Need-same-length-5 cl (gen-arms-at t) gen-arms.Post
-  same-length-5 c = search rules
-
-  same-length-6 : lts.Need-same-length-6 cl (gen-arms-at t) gen-arms.Post
-  same-length-6 c = search rules
+  turn-requires c κs =
+      let c1 = c .before .before .before in
+      let c2 = c1 .before .before .before .before .before .before .before .before in
+      kept (c1 .x .given .1) (c2 .gen-into .ensures) .words
 
   returns-2 : lts.Need-returns-2 cl (gen-arms-at t) gen-arms.Post
   returns-2 c =
@@ -110,7 +62,9 @@ module _ (t : ℕ) where
       (child-into 1 (c5 .pre .0) _ _ (c .child-1 .ensures) (c5 .pre .1 .0), ready-after (c5 .pre .1 .0) (c .child-1 .ensures) (c1 .y .given .1) (c2 .turn .ensures _ _ (kept (c3 .x .given .1) (c4 .gen-into .ensures))))
 
   settle-requires : lts.Need-settle-requires cl (gen-arms-at t) gen-arms.Post
-  settle-requires c κs = counted _ (c .before .before .before .before .before .before .before .gen-into2 .ensures)
+  settle-requires c κs =
+      let c1 = c .before .before .before .before .before .before .before in
+      counted _ (c1 .gen-into2 .ensures)
 
   same-length-7 : lts.Need-same-length-7 cl (gen-arms-at t) gen-arms.Post
   same-length-7 c =
@@ -149,26 +103,26 @@ module _ (t : ℕ) where
   pub gen-arms-holds : (M : Type 1) → lts.Closed cl (gen-arms-at t) gen-arms.Post M
   gen-arms-holds M =
       lts.spec cl (gen-arms-at t) gen-arms.Post
-      mul-gen-into
-      sub-gen-into
-      part-gen-into-start
-      part-gen-into-end
-      child-2-requires
-      gen-into-requires
-      enum-known-x
-      enum-told
-      same-length
-      same-length-2
-      same-length-3
+      (λ c. search rules)
+      (λ c. search rules)
+      (λ c. search rules)
+      (λ c. search rules)
+      (λ c κs. search rules)
+      (λ c κs. search rules)
+      (λ c. search rules)
+      (λ c. search rules)
+      (λ c. search rules)
+      (λ c. search rules)
+      (λ c. search rules)
       returns
-      slice-reshare-prefix-turn
+      (λ c. search rules)
       slice-aggregate-turn
       turn-requires
-      enum-known-y
-      enum-told-2
-      same-length-4
-      same-length-5
-      same-length-6
+      (λ c. search rules)
+      (λ c. search rules)
+      (λ c. search rules)
+      (λ c. search rules)
+      (λ c. search rules)
       returns-2
       child-1-requires
       gen-into-requires-2

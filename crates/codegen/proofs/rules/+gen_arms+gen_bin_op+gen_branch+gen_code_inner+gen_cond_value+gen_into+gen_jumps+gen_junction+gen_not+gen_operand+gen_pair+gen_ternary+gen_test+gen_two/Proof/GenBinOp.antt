@@ -16,15 +16,6 @@ module _ (t : ℕ) where
   abbrev cl : lts.Claims
   cl = (fold-of-reads.Asked, fold-of-reads.Learnt, gen-two-below t, gen-two.Post, operand-of-reads.Asked, operand-of-reads.Learnt, gen-operand-below t, gen-operand.Post, put-tail-reads.Asked, put-tail-reads.Learnt)
 
-  fold-of-requires : lts.Need-fold-of-requires cl (gen-bin-op-at t) gen-bin-op.Post
-  fold-of-requires c κs = search rules
-
-  enum-known-f : lts.Need-enum-known-f cl (gen-bin-op-at t) gen-bin-op.Post
-  enum-known-f c = search rules
-
-  enum-told : lts.Need-enum-told cl (gen-bin-op-at t) gen-bin-op.Post
-  enum-told c = search rules
-
   gen-two-requires : lts.Need-gen-two-requires cl (gen-bin-op-at t) gen-bin-op.Post
   gen-two-requires c κs =
       let c1 = c .before .before .before in
@@ -32,39 +23,12 @@ module _ (t : ℕ) where
       let c3 = c2 .before .before .before .before .before in
       let g = sym (c2 .fold-of .ensures) ∙ c1 .enum-told .given .1 in (op-over-two (c3 .args .nodes .now) (c3 .args .i) t (c3 .pre .0), (c3 .pre .1 .0, (over-unary (c3 .pre .1 .0) (c3 .pre .1 .1 .0) g, c3 .pre .1 .1 .1, g)))
 
-  same-length : lts.Need-same-length cl (gen-bin-op-at t) gen-bin-op.Post
-  same-length c = search rules
-
-  same-length-2 : lts.Need-same-length-2 cl (gen-bin-op-at t) gen-bin-op.Post
-  same-length-2 c = search rules
-
-  same-length-3 : lts.Need-same-length-3 cl (gen-bin-op-at t) gen-bin-op.Post
-  same-length-3 c = search rules
-
-  returns : lts.Need-returns cl (gen-bin-op-at t) gen-bin-op.Post
-  returns c = search rules
-
   operand-of-requires : lts.Need-operand-of-requires cl (gen-bin-op-at t) gen-bin-op.Post
   operand-of-requires c κs =
       let c1 = c .before in
       let c2 = c1 .before .before in
       let c3 = c2 .before .before .before .before .before in
       (operator (c3 .pre .1 .0) (c3 .pre .1 .1 .0) (c3 .pre .1 .1 .1), sym (c2 .fold-of .ensures) ∙ c1 .f .given .1)
-
-  gen-operand-requires : lts.Need-gen-operand-requires cl (gen-bin-op-at t) gen-bin-op.Post
-  gen-operand-requires c κs = search rules
-
-  put-tail-requires : lts.Need-put-tail-requires cl (gen-bin-op-at t) gen-bin-op.Post
-  put-tail-requires c κs = search rules
-
-  same-length-4 : lts.Need-same-length-4 cl (gen-bin-op-at t) gen-bin-op.Post
-  same-length-4 c = search rules
-
-  same-length-5 : lts.Need-same-length-5 cl (gen-bin-op-at t) gen-bin-op.Post
-  same-length-5 c = search rules
-
-  same-length-6 : lts.Need-same-length-6 cl (gen-bin-op-at t) gen-bin-op.Post
-  same-length-6 c = search rules
 
   returns-2 : lts.Need-returns-2 cl (gen-bin-op-at t) gen-bin-op.Post
   returns-2 c =
@@ -79,18 +43,18 @@ module _ (t : ℕ) where
   pub gen-bin-op-holds : (M : Type 1) → lts.Closed cl (gen-bin-op-at t) gen-bin-op.Post M
   gen-bin-op-holds M =
       lts.spec cl (gen-bin-op-at t) gen-bin-op.Post
-      fold-of-requires
-      enum-known-f
-      enum-told
+      (λ c κs. search rules)
+      (λ c. search rules)
+      (λ c. search rules)
       gen-two-requires
-      same-length
-      same-length-2
-      same-length-3
-      returns
+      (λ c. search rules)
+      (λ c. search rules)
+      (λ c. search rules)
+      (λ c. search rules)
       operand-of-requires
-      gen-operand-requires
-      put-tail-requires
-      same-length-4
-      same-length-5
-      same-length-6
+      (λ c κs. search rules)
+      (λ c κs. search rules)
+      (λ c. search rules)
+      (λ c. search rules)
+      (λ c. search rules)
       returns-2

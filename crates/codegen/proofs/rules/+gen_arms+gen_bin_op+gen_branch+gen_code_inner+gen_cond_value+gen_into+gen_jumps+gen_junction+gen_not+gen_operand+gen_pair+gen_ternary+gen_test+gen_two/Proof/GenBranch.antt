@@ -1,6 +1,5 @@
 -- `gen_branch`: The rule meets its contract. Assumes nothing.
 use Prim.Native.Nat.{ℕ}
-use native.Mathlib.Omega.{arith}
 use Rattle.codegen.proofs.Walk.{rules, is-kind, branch-over-not, is-not, same-eqb, junction-found, branch-over-junction, branch-over-test}
 use Rattle.codegen.proofs.rules.gen_branch.Reads as gen-branch
 use Rattle.codegen.proofs.rules.gen_junction.Reads as gen-junction
@@ -15,30 +14,12 @@ module _ (t : ℕ) where
   abbrev cl : lts.Claims
   cl = (kind-at-reads.Asked, kind-at-reads.Learnt, gen-not-below t, gen-not.Post, is-junction-reads.Asked, is-junction-reads.Learnt, gen-junction-below t, gen-junction.Post, gen-test-below t, gen-test.Post)
 
-  kind-at-requires : lts.Need-kind-at-requires cl (gen-branch-at t) gen-branch.Post
-  kind-at-requires c κs = search rules
-
   gen-not-requires : lts.Need-gen-not-requires cl (gen-branch-at t) gen-branch.Post
   gen-not-requires c κs =
       let c1 = c .before .before .before in
       let c2 = c1 .before in
       let c3 = c2 .before .before .before .before .before in
       (branch-over-not (c3 .args .nodes .now) (c3 .args .i) t (c3 .pre .0), (c3 .pre .1, is-kind (c2 .kind-at .ensures) (c1 .if1 .taken)))
-
-  same-length : lts.Need-same-length cl (gen-branch-at t) gen-branch.Post
-  same-length c = search rules
-
-  same-length-2 : lts.Need-same-length-2 cl (gen-branch-at t) gen-branch.Post
-  same-length-2 c = search rules
-
-  same-length-3 : lts.Need-same-length-3 cl (gen-branch-at t) gen-branch.Post
-  same-length-3 c = search rules
-
-  returns : lts.Need-returns cl (gen-branch-at t) gen-branch.Post
-  returns c = search rules
-
-  is-junction-requires : lts.Need-is-junction-requires cl (gen-branch-at t) gen-branch.Post
-  is-junction-requires c κs = search rules
 
   gen-junction-requires : lts.Need-gen-junction-requires cl (gen-branch-at t) gen-branch.Post
   gen-junction-requires c κs =
@@ -47,18 +28,6 @@ module _ (t : ℕ) where
       let c3 = c2 .before .before in
       let c4 = c3 .before .before .before .before .before in
       (branch-over-junction (c4 .args .nodes .now) (c4 .args .i) t (c4 .pre .0), (c4 .pre .1, (junction-found (c3 .kind-at .ensures) (c2 .is-junction .ensures) (c1 .if2 .taken), same-eqb (c3 .kind-at .ensures) 25)))
-
-  same-length-4 : lts.Need-same-length-4 cl (gen-branch-at t) gen-branch.Post
-  same-length-4 c = search rules
-
-  same-length-5 : lts.Need-same-length-5 cl (gen-branch-at t) gen-branch.Post
-  same-length-5 c = search rules
-
-  same-length-6 : lts.Need-same-length-6 cl (gen-branch-at t) gen-branch.Post
-  same-length-6 c = search rules
-
-  returns-2 : lts.Need-returns-2 cl (gen-branch-at t) gen-branch.Post
-  returns-2 c = search rules
 
   gen-test-requires : lts.Need-gen-test-requires cl (gen-branch-at t) gen-branch.Post
   gen-test-requires c κs =
@@ -69,35 +38,23 @@ module _ (t : ℕ) where
       let c5 = c4 .before .before .before .before .before in
       (branch-over-test (c5 .args .nodes .now) (c5 .args .i) t (c5 .pre .0), (c5 .pre .1, (is-not (c4 .kind-at .ensures) (c3 .if1 .left), junction-found (c4 .kind-at .ensures) (c2 .is-junction .ensures) (c1 .if2 .left))))
 
-  same-length-7 : lts.Need-same-length-7 cl (gen-branch-at t) gen-branch.Post
-  same-length-7 c = search rules
-
-  same-length-8 : lts.Need-same-length-8 cl (gen-branch-at t) gen-branch.Post
-  same-length-8 c = search rules
-
-  same-length-9 : lts.Need-same-length-9 cl (gen-branch-at t) gen-branch.Post
-  same-length-9 c = search rules
-
-  returns-3 : lts.Need-returns-3 cl (gen-branch-at t) gen-branch.Post
-  returns-3 c = search rules
-
   pub gen-branch-holds : (M : Type 1) → lts.Closed cl (gen-branch-at t) gen-branch.Post M
   gen-branch-holds M =
       lts.spec cl (gen-branch-at t) gen-branch.Post
-      kind-at-requires
+      (λ c κs. search rules)
       gen-not-requires
-      same-length
-      same-length-2
-      same-length-3
-      returns
-      is-junction-requires
+      (λ c. search rules)
+      (λ c. search rules)
+      (λ c. search rules)
+      (λ c. search rules)
+      (λ c κs. search rules)
       gen-junction-requires
-      same-length-4
-      same-length-5
-      same-length-6
-      returns-2
+      (λ c. search rules)
+      (λ c. search rules)
+      (λ c. search rules)
+      (λ c. search rules)
       gen-test-requires
-      same-length-7
-      same-length-8
-      same-length-9
-      returns-3
+      (λ c. search rules)
+      (λ c. search rules)
+      (λ c. search rules)
+      (λ c. search rules)

@@ -15,21 +15,12 @@ module _ (t : ℕ) where
   abbrev cl : lts.Claims
   cl = (kind-at-reads.Asked, kind-at-reads.Learnt, gen-value-reads.Asked, gen-value-reads.Learnt, gen-bin-op-below t, gen-bin-op.Post, gen-cond-value-below t, gen-cond-value.Post, gen-ternary-below t, gen-ternary.Post)
 
-  kind-at-requires : lts.Need-kind-at-requires cl (gen-code-inner-at t) gen-code-inner.Post
-  kind-at-requires c κs = search rules
-
   gen-value-requires : lts.Need-gen-value-requires cl (gen-code-inner-at t) gen-code-inner.Post
   gen-value-requires c κs =
       let c1 = c .before .before in
       let c2 = c1 .before in
       let c3 = c2 .before .before .before .before .before in
       (leaf-ready (c3 .pre .1) (under (c2 .kind-at .ensures) (c1 .if1 .taken)), c3 .pre .1 .fit)
-
-  same-length : lts.Need-same-length cl (gen-code-inner-at t) gen-code-inner.Post
-  same-length c = search rules
-
-  same-length-2 : lts.Need-same-length-2 cl (gen-code-inner-at t) gen-code-inner.Post
-  same-length-2 c = search rules
 
   returns : lts.Need-returns cl (gen-code-inner-at t) gen-code-inner.Post
   returns c =
@@ -47,18 +38,6 @@ module _ (t : ℕ) where
       let c4 = c3 .before .before .before .before .before in
       (value-over-op (c4 .args .nodes .now) (c4 .args .i) t (c4 .pre .0), (c4 .pre .1, (over (c3 .kind-at .ensures) (c2 .if1 .left), under (c3 .kind-at .ensures) (c1 .if2 .taken))))
 
-  same-length-3 : lts.Need-same-length-3 cl (gen-code-inner-at t) gen-code-inner.Post
-  same-length-3 c = search rules
-
-  same-length-4 : lts.Need-same-length-4 cl (gen-code-inner-at t) gen-code-inner.Post
-  same-length-4 c = search rules
-
-  same-length-5 : lts.Need-same-length-5 cl (gen-code-inner-at t) gen-code-inner.Post
-  same-length-5 c = search rules
-
-  returns-2 : lts.Need-returns-2 cl (gen-code-inner-at t) gen-code-inner.Post
-  returns-2 c = search rules
-
   gen-cond-value-requires : lts.Need-gen-cond-value-requires cl (gen-code-inner-at t) gen-code-inner.Post
   gen-cond-value-requires c κs =
       let c1 = c .before .before .before in
@@ -67,18 +46,6 @@ module _ (t : ℕ) where
       let c4 = c3 .before .before .before .before .before in
       let low = over (c3 .kind-at .ensures) (c2 .if2 .left) in let high = under (c3 .kind-at .ensures) (c1 .if3 .taken) in (value-over-cond (c4 .args .nodes .now) (c4 .args .i) t (c4 .pre .0) low high, (c4 .pre .1, (low, high)))
 
-  same-length-6 : lts.Need-same-length-6 cl (gen-code-inner-at t) gen-code-inner.Post
-  same-length-6 c = search rules
-
-  same-length-7 : lts.Need-same-length-7 cl (gen-code-inner-at t) gen-code-inner.Post
-  same-length-7 c = search rules
-
-  same-length-8 : lts.Need-same-length-8 cl (gen-code-inner-at t) gen-code-inner.Post
-  same-length-8 c = search rules
-
-  returns-3 : lts.Need-returns-3 cl (gen-code-inner-at t) gen-code-inner.Post
-  returns-3 c = search rules
-
   gen-ternary-requires : lts.Need-gen-ternary-requires cl (gen-code-inner-at t) gen-code-inner.Post
   gen-ternary-requires c κs =
       let c1 = c .before .before .before in
@@ -86,38 +53,26 @@ module _ (t : ℕ) where
       let c3 = c2 .before .before .before .before .before in
       (value-over-op (c3 .args .nodes .now) (c3 .args .i) t (c3 .pre .0), (c3 .pre .1, over (c2 .kind-at .ensures) (c1 .if3 .left)))
 
-  same-length-9 : lts.Need-same-length-9 cl (gen-code-inner-at t) gen-code-inner.Post
-  same-length-9 c = search rules
-
-  same-length-10 : lts.Need-same-length-10 cl (gen-code-inner-at t) gen-code-inner.Post
-  same-length-10 c = search rules
-
-  same-length-11 : lts.Need-same-length-11 cl (gen-code-inner-at t) gen-code-inner.Post
-  same-length-11 c = search rules
-
-  returns-4 : lts.Need-returns-4 cl (gen-code-inner-at t) gen-code-inner.Post
-  returns-4 c = search rules
-
   pub gen-code-inner-holds : (M : Type 1) → lts.Closed cl (gen-code-inner-at t) gen-code-inner.Post M
   gen-code-inner-holds M =
       lts.spec cl (gen-code-inner-at t) gen-code-inner.Post
-      kind-at-requires
+      (λ c κs. search rules)
       gen-value-requires
-      same-length
-      same-length-2
+      (λ c. search rules)
+      (λ c. search rules)
       returns
       gen-bin-op-requires
-      same-length-3
-      same-length-4
-      same-length-5
-      returns-2
+      (λ c. search rules)
+      (λ c. search rules)
+      (λ c. search rules)
+      (λ c. search rules)
       gen-cond-value-requires
-      same-length-6
-      same-length-7
-      same-length-8
-      returns-3
+      (λ c. search rules)
+      (λ c. search rules)
+      (λ c. search rules)
+      (λ c. search rules)
       gen-ternary-requires
-      same-length-9
-      same-length-10
-      same-length-11
-      returns-4
+      (λ c. search rules)
+      (λ c. search rules)
+      (λ c. search rules)
+      (λ c. search rules)

@@ -14,15 +14,6 @@ module _ (t : ℕ) where
   abbrev cl : lts.Claims
   cl = (dest-reads.Asked, dest-reads.Learnt, gen-jumps-below t, gen-jumps.Post, gen-bool-reads.Asked, gen-bool-reads.Learnt)
 
-  dest-requires : lts.Need-dest-requires cl (gen-cond-value-at t) gen-cond-value.Post
-  dest-requires c κs = search rules
-
-  enum-known-x : lts.Need-enum-known-x cl (gen-cond-value-at t) gen-cond-value.Post
-  enum-known-x c = search rules
-
-  enum-told : lts.Need-enum-told cl (gen-cond-value-at t) gen-cond-value.Post
-  enum-told c = search rules
-
   returns : lts.Need-returns cl (gen-cond-value-at t) gen-cond-value.Post
   returns c =
       let c1 = c .before .before in
@@ -36,29 +27,23 @@ module _ (t : ℕ) where
       let c3 = c2 .before .before .before .before .before in
       (cond-over-jumps (c3 .args .nodes .now) (c3 .args .i) t (c3 .pre .0) (c3 .pre .1 .1 .0) (c3 .pre .1 .1 .1), ready-dest (c3 .pre .1 .0) _ (c2 .dest .ensures) (c1 .x .given .1))
 
-  enum-known-y : lts.Need-enum-known-y cl (gen-cond-value-at t) gen-cond-value.Post
-  enum-known-y c = search rules
-
   slice-reshare-prefix-gen-bool : lts.Need-slice-reshare-prefix-gen-bool cl (gen-cond-value-at t) gen-cond-value.Post
-  slice-reshare-prefix-gen-bool c = listed (c .before .before .y .given .1) (c .before .before .before .before .before .before .before .before .before .before .gen-jumps .ensures)
+  slice-reshare-prefix-gen-bool c =
+      let c1 = c .before .before in
+      let c2 = c1 .before .before .before .before .before .before .before .before in
+      listed (c1 .y .given .1) (c2 .gen-jumps .ensures)
 
   slice-aggregate-gen-bool : lts.Need-slice-aggregate-gen-bool cl (gen-cond-value-at t) gen-cond-value.Post
-  slice-aggregate-gen-bool c = prefix _ _ (listed (c .before .before .before .y .given .1) (c .before .before .before .before .before .before .before .before .before .before .before .gen-jumps .ensures))
+  slice-aggregate-gen-bool c =
+      let c1 = c .before .before .before in
+      let c2 = c1 .before .before .before .before .before .before .before .before in
+      prefix _ _ (listed (c1 .y .given .1) (c2 .gen-jumps .ensures))
 
   gen-bool-requires : lts.Need-gen-bool-requires cl (gen-cond-value-at t) gen-cond-value.Post
-  gen-bool-requires c κs = kept-jumps (c .before .before .before .y .given .1) (c .before .before .before .before .before .before .before .before .before .before .before .gen-jumps .ensures) .words
-
-  enum-known-y-2 : lts.Need-enum-known-y-2 cl (gen-cond-value-at t) gen-cond-value.Post
-  enum-known-y-2 c = search rules
-
-  same-length : lts.Need-same-length cl (gen-cond-value-at t) gen-cond-value.Post
-  same-length c = search rules
-
-  same-length-2 : lts.Need-same-length-2 cl (gen-cond-value-at t) gen-cond-value.Post
-  same-length-2 c = search rules
-
-  same-length-3 : lts.Need-same-length-3 cl (gen-cond-value-at t) gen-cond-value.Post
-  same-length-3 c = search rules
+  gen-bool-requires c κs =
+      let c1 = c .before .before .before in
+      let c2 = c1 .before .before .before .before .before .before .before .before in
+      kept-jumps (c1 .y .given .1) (c2 .gen-jumps .ensures) .words
 
   returns-2 : lts.Need-returns-2 cl (gen-cond-value-at t) gen-cond-value.Post
   returns-2 c =
@@ -69,15 +54,6 @@ module _ (t : ℕ) where
       let c5 = c4 .before .before in
       let c6 = c5 .before .before .before .before .before in
       cond-value (c6 .pre .1 .0) _ _ (c6 .pre .1 .1) (c5 .dest .ensures) (c4 .x .given .1) (c3 .gen-jumps .ensures) (c2 .y .given .1) (c1 .gen-bool .ensures)
-
-  same-length-4 : lts.Need-same-length-4 cl (gen-cond-value-at t) gen-cond-value.Post
-  same-length-4 c = search rules
-
-  same-length-5 : lts.Need-same-length-5 cl (gen-cond-value-at t) gen-cond-value.Post
-  same-length-5 c = search rules
-
-  same-length-6 : lts.Need-same-length-6 cl (gen-cond-value-at t) gen-cond-value.Post
-  same-length-6 c = search rules
 
   returns-3 : lts.Need-returns-3 cl (gen-cond-value-at t) gen-cond-value.Post
   returns-3 c =
@@ -91,21 +67,21 @@ module _ (t : ℕ) where
   pub gen-cond-value-holds : (M : Type 1) → lts.Closed cl (gen-cond-value-at t) gen-cond-value.Post M
   gen-cond-value-holds M =
       lts.spec cl (gen-cond-value-at t) gen-cond-value.Post
-      dest-requires
-      enum-known-x
-      enum-told
+      (λ c κs. search rules)
+      (λ c. search rules)
+      (λ c. search rules)
       returns
       gen-jumps-requires
-      enum-known-y
+      (λ c. search rules)
       slice-reshare-prefix-gen-bool
       slice-aggregate-gen-bool
       gen-bool-requires
-      enum-known-y-2
-      same-length
-      same-length-2
-      same-length-3
+      (λ c. search rules)
+      (λ c. search rules)
+      (λ c. search rules)
+      (λ c. search rules)
       returns-2
-      same-length-4
-      same-length-5
-      same-length-6
+      (λ c. search rules)
+      (λ c. search rules)
+      (λ c. search rules)
       returns-3

@@ -12,30 +12,12 @@ module _ (t : ℕ) where
   abbrev cl : lts.Claims
   cl = (gen-code-inner-below t, gen-code-inner.Post, put-mov-reads.Asked, put-mov-reads.Learnt)
 
-  gen-code-inner-requires : lts.Need-gen-code-inner-requires cl (gen-into-at t) gen-into.Post
-  gen-code-inner-requires c κs = search rules
-
-  put-mov-requires : lts.Need-put-mov-requires cl (gen-into-at t) gen-into.Post
-  put-mov-requires c κs = search rules
-
-  same-length : lts.Need-same-length cl (gen-into-at t) gen-into.Post
-  same-length c = search rules
-
-  same-length-2 : lts.Need-same-length-2 cl (gen-into-at t) gen-into.Post
-  same-length-2 c = search rules
-
-  same-length-3 : lts.Need-same-length-3 cl (gen-into-at t) gen-into.Post
-  same-length-3 c = search rules
-
-  returns : lts.Need-returns cl (gen-into-at t) gen-into.Post
-  returns c = into-value _ _ _ _ (c .before .before .before .before .before .before .before .before .before .before .gen-code-inner .ensures) (c .before .before .put-mov .ensures)
-
   pub gen-into-holds : (M : Type 1) → lts.Closed cl (gen-into-at t) gen-into.Post M
   gen-into-holds M =
       lts.spec cl (gen-into-at t) gen-into.Post
-      gen-code-inner-requires
-      put-mov-requires
-      same-length
-      same-length-2
-      same-length-3
-      returns
+      (λ c κs. search rules)
+      (λ c κs. search rules)
+      (λ c. search rules)
+      (λ c. search rules)
+      (λ c. search rules)
+      (λ c. search (into-value, rules))

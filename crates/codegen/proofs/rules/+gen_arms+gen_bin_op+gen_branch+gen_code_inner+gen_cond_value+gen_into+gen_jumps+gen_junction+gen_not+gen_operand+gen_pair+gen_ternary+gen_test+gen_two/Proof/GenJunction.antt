@@ -17,25 +17,9 @@ module _ (t : ℕ) where
   cl = (child-2-reads.Asked, child-2-reads.Learnt, gen-jumps-below t, gen-jumps.Post, child-1-reads.Asked, child-1-reads.Learnt, join-reads.Asked, join-reads.Learnt)
 
   child-2-requires : lts.Need-child-2-requires cl (gen-junction-at t) gen-junction.Post
-  child-2-requires c κs = inner (c .before .before .before .before .before .before .before .pre .1 .0) {m = 7} (junction-over (c .before .before .before .before .before .before .before .pre .1 .1 .0) (omega arith)) (omega arith)
-
-  gen-jumps-requires : lts.Need-gen-jumps-requires cl (gen-junction-at t) gen-junction.Post
-  gen-jumps-requires c κs = search rules
-
-  enum-known-x : lts.Need-enum-known-x cl (gen-junction-at t) gen-junction.Post
-  enum-known-x c = search rules
-
-  enum-told : lts.Need-enum-told cl (gen-junction-at t) gen-junction.Post
-  enum-told c = search rules
-
-  same-length : lts.Need-same-length cl (gen-junction-at t) gen-junction.Post
-  same-length c = search rules
-
-  same-length-2 : lts.Need-same-length-2 cl (gen-junction-at t) gen-junction.Post
-  same-length-2 c = search rules
-
-  same-length-3 : lts.Need-same-length-3 cl (gen-junction-at t) gen-junction.Post
-  same-length-3 c = search rules
+  child-2-requires c κs =
+      let c1 = c .before .before .before .before .before .before .before in
+      inner (c1 .pre .1 .0) {m = 7} (junction-over (c1 .pre .1 .1 .0) (omega arith)) (omega arith)
 
   returns : lts.Need-returns cl (gen-junction-at t) gen-junction.Post
   returns c =
@@ -52,13 +36,16 @@ module _ (t : ℕ) where
       record { fits = omega (arith, listed (c1 .x .given .1) (c2 .gen-jumps .ensures), c2 .gen-jumps .kept .1 .1 .1 .0, c3 .good .1 .1 .1 .0) }
 
   sub-gen-jumps : lts.Need-sub-gen-jumps cl (gen-junction-at t) gen-junction.Post
-  sub-gen-jumps c = listed (c .before .before .before .x .given .1) (c .before .before .before .before .before .before .before .before .before .before .before .gen-jumps .ensures)
+  sub-gen-jumps c =
+      let c1 = c .before .before .before in
+      let c2 = c1 .before .before .before .before .before .before .before .before in
+      listed (c1 .x .given .1) (c2 .gen-jumps .ensures)
 
   part-gen-jumps-start : lts.Need-part-gen-jumps-start cl (gen-junction-at t) gen-junction.Post
-  part-gen-jumps-start c = listed (c .before .before .before .x .given .1) (c .before .before .before .before .before .before .before .before .before .before .before .gen-jumps .ensures)
-
-  part-gen-jumps-end : lts.Need-part-gen-jumps-end cl (gen-junction-at t) gen-junction.Post
-  part-gen-jumps-end c = search rules
+  part-gen-jumps-start c =
+      let c1 = c .before .before .before in
+      let c2 = c1 .before .before .before .before .before .before .before .before in
+      listed (c1 .x .given .1) (c2 .gen-jumps .ensures)
 
   child-1-requires : lts.Need-child-1-requires cl (gen-junction-at t) gen-junction.Post
   child-1-requires c κs =
@@ -79,15 +66,6 @@ module _ (t : ℕ) where
       let c3 = c2 .before .before .before .before .before .before .before .before in
       let h = listed (c2 .x .given .1) (c3 .gen-jumps .ensures) in record { left = front-in _ _ (c1 .gen-jumps2 .last .1 .1 .1 .0) h; right = behind _ _ (c1 .gen-jumps2 .last .1 .1 .1 .0) h _ (c1 .gen-jumps2 .ensures) }
 
-  same-length-4 : lts.Need-same-length-4 cl (gen-junction-at t) gen-junction.Post
-  same-length-4 c = search rules
-
-  same-length-5 : lts.Need-same-length-5 cl (gen-junction-at t) gen-junction.Post
-  same-length-5 c = search rules
-
-  same-length-6 : lts.Need-same-length-6 cl (gen-junction-at t) gen-junction.Post
-  same-length-6 c = search rules
-
   returns-2 : lts.Need-returns-2 cl (gen-junction-at t) gen-junction.Post
   returns-2 c =
       let c1 = c .before .before .before .before in
@@ -103,21 +81,21 @@ module _ (t : ℕ) where
   gen-junction-holds M =
       lts.spec cl (gen-junction-at t) gen-junction.Post
       child-2-requires
-      gen-jumps-requires
-      enum-known-x
-      enum-told
-      same-length
-      same-length-2
-      same-length-3
+      (λ c κs. search rules)
+      (λ c. search rules)
+      (λ c. search rules)
+      (λ c. search rules)
+      (λ c. search rules)
+      (λ c. search rules)
       returns
       mul-gen-jumps
       sub-gen-jumps
       part-gen-jumps-start
-      part-gen-jumps-end
+      (λ c. search rules)
       child-1-requires
       gen-jumps-requires-2
       join-requires
-      same-length-4
-      same-length-5
-      same-length-6
+      (λ c. search rules)
+      (λ c. search rules)
+      (λ c. search rules)
       returns-2

@@ -14,33 +14,16 @@ module _ (t : ℕ) where
   cl = (child-1-reads.Asked, child-1-reads.Learnt, gen-branch-below t, gen-branch.Post)
 
   child-1-requires : lts.Need-child-1-requires cl (gen-not-at t) gen-not.Post
-  child-1-requires c κs = inner (c .before .before .before .before .before .before .before .pre .1 .0) {m = 6} (omega (arith, c .before .before .before .before .before .before .before .pre .1 .1)) (omega arith)
-
-  gen-branch-requires : lts.Need-gen-branch-requires cl (gen-not-at t) gen-not.Post
-  gen-branch-requires c κs = search rules
-
-  same-length : lts.Need-same-length cl (gen-not-at t) gen-not.Post
-  same-length c = search rules
-
-  same-length-2 : lts.Need-same-length-2 cl (gen-not-at t) gen-not.Post
-  same-length-2 c = search rules
-
-  same-length-3 : lts.Need-same-length-3 cl (gen-not-at t) gen-not.Post
-  same-length-3 c = search rules
-
-  returns : lts.Need-returns cl (gen-not-at t) gen-not.Post
-  returns c =
-      let c1 = c .before .before .before .before .before .before in
-      let c2 = c1 .before in
-      let c3 = c2 .before .before .before .before .before .before .before .before in
-      not-branch (c3 .pre .1 .0) _ _ (c3 .pre .1 .1) (c2 .child-1 .ensures) (c1 .gen-branch .ensures)
+  child-1-requires c κs =
+      let c1 = c .before .before .before .before .before .before .before in
+      inner (c1 .pre .1 .0) {m = 6} (omega (arith, c1 .pre .1 .1)) (omega arith)
 
   pub gen-not-holds : (M : Type 1) → lts.Closed cl (gen-not-at t) gen-not.Post M
   gen-not-holds M =
       lts.spec cl (gen-not-at t) gen-not.Post
       child-1-requires
-      gen-branch-requires
-      same-length
-      same-length-2
-      same-length-3
-      returns
+      (λ c κs. search rules)
+      (λ c. search rules)
+      (λ c. search rules)
+      (λ c. search rules)
+      (λ c. search (not-branch, rules))

@@ -17,18 +17,6 @@ module _ (t : ℕ) where
   abbrev cl : lts.Claims
   cl = (child-2-reads.Asked, child-2-reads.Learnt, gen-operand-below t, gen-operand.Post, child-1-reads.Asked, child-1-reads.Learnt, kind-at-reads.Asked, kind-at-reads.Learnt, cmp-branch-reads.Asked, cmp-branch-reads.Learnt, jump-pair-reads.Asked, jump-pair-reads.Learnt)
 
-  child-2-requires : lts.Need-child-2-requires cl (gen-pair-at t) gen-pair.Post
-  child-2-requires c κs = search rules
-
-  gen-operand-requires : lts.Need-gen-operand-requires cl (gen-pair-at t) gen-pair.Post
-  gen-operand-requires c κs = search rules
-
-  enum-known-x : lts.Need-enum-known-x cl (gen-pair-at t) gen-pair.Post
-  enum-known-x c = search rules
-
-  child-1-requires : lts.Need-child-1-requires cl (gen-pair-at t) gen-pair.Post
-  child-1-requires c κs = search rules
-
   gen-operand-requires-2 : lts.Need-gen-operand-requires-2 cl (gen-pair-at t) gen-pair.Post
   gen-operand-requires-2 c κs =
       let c1 = c .before .before .before .before .before in
@@ -41,27 +29,12 @@ module _ (t : ℕ) where
       let c1 = c .before .before .before .before .before .before .before .before .before .before .before .before .before .before .before .before .before .before .before .before .before .before .before .before .before .before .before .before .before .before .before in
       inside (c1 .pre .1 .0)
 
-  cmp-branch-requires : lts.Need-cmp-branch-requires cl (gen-pair-at t) gen-pair.Post
-  cmp-branch-requires c κs = search rules
-
-  jump-pair-requires : lts.Need-jump-pair-requires cl (gen-pair-at t) gen-pair.Post
-  jump-pair-requires c κs = search rules
-
-  enum-known-x-2 : lts.Need-enum-known-x-2 cl (gen-pair-at t) gen-pair.Post
-  enum-known-x-2 c = search rules
-
   same-length : lts.Need-same-length cl (gen-pair-at t) gen-pair.Post
   same-length c =
       let c1 = c .before .before .before .before in
       let c2 = c1 .before .before .before .before .before .before .before .before .before .before .before in
       let c3 = c2 .before .before .before .before .before .before .before .before .before .before .before .before .before .before in
       c1 .jump-pair .kept .0 ∙ c2 .gen-operand2 .kept .1 .0 ∙ c3 .gen-operand .kept .1 .0
-
-  same-length-2 : lts.Need-same-length-2 cl (gen-pair-at t) gen-pair.Post
-  same-length-2 c = search rules
-
-  same-length-3 : lts.Need-same-length-3 cl (gen-pair-at t) gen-pair.Post
-  same-length-3 c = search rules
 
   returns : lts.Need-returns cl (gen-pair-at t) gen-pair.Post
   returns c =
@@ -76,15 +49,6 @@ module _ (t : ℕ) where
       let c9 = c8 .before .before .before .before .before .before .before .before in
       pair-branch (c9 .pre .1 .0) _ _ (c9 .pre .1 .1) (c8 .child-2 .ensures) (c7 .gen-operand .ensures) (c6 .x .given .1) (c5 .child-1 .ensures) (c7 .gen-operand .kept .1 .1 .1 .0) (c4 .gen-operand2 .ensures) (c4 .gen-operand2 .kept .1 .1 .1 .0 ∙ c7 .gen-operand .kept .1 .1 .1 .0) (c3 .kind-at .ensures) (c2 .cmp-branch .ensures) (c1 .jump-pair .ensures)
 
-  same-length-4 : lts.Need-same-length-4 cl (gen-pair-at t) gen-pair.Post
-  same-length-4 c = search rules
-
-  same-length-5 : lts.Need-same-length-5 cl (gen-pair-at t) gen-pair.Post
-  same-length-5 c = search rules
-
-  same-length-6 : lts.Need-same-length-6 cl (gen-pair-at t) gen-pair.Post
-  same-length-6 c = search rules
-
   returns-2 : lts.Need-returns-2 cl (gen-pair-at t) gen-pair.Post
   returns-2 c =
       let c1 = c .before in
@@ -96,20 +60,20 @@ module _ (t : ℕ) where
   pub gen-pair-holds : (M : Type 1) → lts.Closed cl (gen-pair-at t) gen-pair.Post M
   gen-pair-holds M =
       lts.spec cl (gen-pair-at t) gen-pair.Post
-      child-2-requires
-      gen-operand-requires
-      enum-known-x
-      child-1-requires
+      (λ c κs. search rules)
+      (λ c κs. search rules)
+      (λ c. search rules)
+      (λ c κs. search rules)
       gen-operand-requires-2
       kind-at-requires
-      cmp-branch-requires
-      jump-pair-requires
-      enum-known-x-2
+      (λ c κs. search rules)
+      (λ c κs. search rules)
+      (λ c. search rules)
       same-length
-      same-length-2
-      same-length-3
+      (λ c. search rules)
+      (λ c. search rules)
       returns
-      same-length-4
-      same-length-5
-      same-length-6
+      (λ c. search rules)
+      (λ c. search rules)
+      (λ c. search rules)
       returns-2

@@ -15,23 +15,11 @@ module _ (t : ℕ) where
   abbrev cl : lts.Claims
   cl = (dest-reads.Asked, dest-reads.Learnt, child-3-reads.Asked, child-3-reads.Learnt, gen-jumps-below t, gen-jumps.Post, gen-arms-below t, gen-arms.Post)
 
-  dest-requires : lts.Need-dest-requires cl (gen-ternary-at t) gen-ternary.Post
-  dest-requires c κs = search rules
-
-  enum-known-x : lts.Need-enum-known-x cl (gen-ternary-at t) gen-ternary.Post
-  enum-known-x c = search rules
-
-  enum-told : lts.Need-enum-told cl (gen-ternary-at t) gen-ternary.Post
-  enum-told c = search rules
-
   returns : lts.Need-returns cl (gen-ternary-at t) gen-ternary.Post
   returns c =
       let c1 = c .before .before in
       let c2 = c1 .before .before .before .before .before in
       ternary-stop (c2 .pre .1 .0) _ _ (c2 .pre .1 .1) (c1 .dest .ensures) (c .enum-told .given .1)
-
-  child-3-requires : lts.Need-child-3-requires cl (gen-ternary-at t) gen-ternary.Post
-  child-3-requires c κs = search rules
 
   gen-jumps-requires : lts.Need-gen-jumps-requires cl (gen-ternary-at t) gen-ternary.Post
   gen-jumps-requires c κs =
@@ -40,27 +28,12 @@ module _ (t : ℕ) where
       let c3 = c2 .before .before .before .before .before in
       (child-jumps 2 (c3 .pre .0) _ _ (c .child-3 .ensures) (c3 .pre .1 .0), ready-child (ready-dest (c3 .pre .1 .0) _ (c2 .dest .ensures) (c1 .x .given .1)) (c .child-3 .ensures))
 
-  enum-known-y : lts.Need-enum-known-y cl (gen-ternary-at t) gen-ternary.Post
-  enum-known-y c = search rules
-
   gen-arms-requires : lts.Need-gen-arms-requires cl (gen-ternary-at t) gen-ternary.Post
   gen-arms-requires c κs =
       let c1 = c .before .before .before .before in
       let c2 = c1 .before .before .before .before .before .before .before .before in
       let c3 = c2 .before .before .before .before .before .before .before .before .before .before .before .before .before in
       (op-over-two (c3 .args .nodes .now) (c3 .args .i) t (c3 .pre .0), (ready-jumps (c3 .pre .1 .0) (c1 .y .given .1) (c2 .gen-jumps .ensures), c3 .pre .1 .1, listed (c1 .y .given .1) (c2 .gen-jumps .ensures)))
-
-  enum-known-y-2 : lts.Need-enum-known-y-2 cl (gen-ternary-at t) gen-ternary.Post
-  enum-known-y-2 c = search rules
-
-  same-length : lts.Need-same-length cl (gen-ternary-at t) gen-ternary.Post
-  same-length c = search rules
-
-  same-length-2 : lts.Need-same-length-2 cl (gen-ternary-at t) gen-ternary.Post
-  same-length-2 c = search rules
-
-  same-length-3 : lts.Need-same-length-3 cl (gen-ternary-at t) gen-ternary.Post
-  same-length-3 c = search rules
 
   returns-2 : lts.Need-returns-2 cl (gen-ternary-at t) gen-ternary.Post
   returns-2 c =
@@ -72,15 +45,6 @@ module _ (t : ℕ) where
       let c6 = c5 .before .before in
       let c7 = c6 .before .before .before .before .before in
       ternary-value (c7 .pre .1 .0) _ _ (c7 .pre .1 .1) (c6 .dest .ensures) (c5 .x .given .1) (c4 .child-3 .ensures) (c3 .gen-jumps .ensures) (c2 .y .given .1) (c3 .gen-jumps .kept .1 .1 .1 .0) (c1 .gen-arms .ensures)
-
-  same-length-4 : lts.Need-same-length-4 cl (gen-ternary-at t) gen-ternary.Post
-  same-length-4 c = search rules
-
-  same-length-5 : lts.Need-same-length-5 cl (gen-ternary-at t) gen-ternary.Post
-  same-length-5 c = search rules
-
-  same-length-6 : lts.Need-same-length-6 cl (gen-ternary-at t) gen-ternary.Post
-  same-length-6 c = search rules
 
   returns-3 : lts.Need-returns-3 cl (gen-ternary-at t) gen-ternary.Post
   returns-3 c =
@@ -95,20 +59,20 @@ module _ (t : ℕ) where
   pub gen-ternary-holds : (M : Type 1) → lts.Closed cl (gen-ternary-at t) gen-ternary.Post M
   gen-ternary-holds M =
       lts.spec cl (gen-ternary-at t) gen-ternary.Post
-      dest-requires
-      enum-known-x
-      enum-told
+      (λ c κs. search rules)
+      (λ c. search rules)
+      (λ c. search rules)
       returns
-      child-3-requires
+      (λ c κs. search rules)
       gen-jumps-requires
-      enum-known-y
+      (λ c. search rules)
       gen-arms-requires
-      enum-known-y-2
-      same-length
-      same-length-2
-      same-length-3
+      (λ c. search rules)
+      (λ c. search rules)
+      (λ c. search rules)
+      (λ c. search rules)
       returns-2
-      same-length-4
-      same-length-5
-      same-length-6
+      (λ c. search rules)
+      (λ c. search rules)
+      (λ c. search rules)
       returns-3

@@ -14,15 +14,6 @@ module _ (t : ℕ) where
   abbrev cl : lts.Claims
   cl = (test-of-reads.Asked, test-of-reads.Learnt, gen-pair-below t, gen-pair.Post, gen-operand-below t, gen-operand.Post, jump-one-reads.Asked, jump-one-reads.Learnt)
 
-  test-of-requires : lts.Need-test-of-requires cl (gen-test-at t) gen-test.Post
-  test-of-requires c κs = search rules
-
-  enum-known-t : lts.Need-enum-known-t cl (gen-test-at t) gen-test.Post
-  enum-known-t c = search rules
-
-  enum-told : lts.Need-enum-told cl (gen-test-at t) gen-test.Post
-  enum-told c = search rules
-
   gen-pair-requires : lts.Need-gen-pair-requires cl (gen-test-at t) gen-test.Post
   gen-pair-requires c κs =
       let c1 = c .before .before .before in
@@ -30,36 +21,12 @@ module _ (t : ℕ) where
       let c3 = c2 .before .before .before .before .before in
       let p = picked-both _ _ _ (c1 .enum-told .given .1) (c2 .test-of .ensures) in let k = pair-kind (c3 .pre .1 .0) _ p in (test-over-pair (c3 .args .nodes .now) (c3 .args .i) t (c3 .pre .0), (c3 .pre .1 .0, (k .0, k .1, p)))
 
-  same-length : lts.Need-same-length cl (gen-test-at t) gen-test.Post
-  same-length c = search rules
-
-  same-length-2 : lts.Need-same-length-2 cl (gen-test-at t) gen-test.Post
-  same-length-2 c = search rules
-
-  same-length-3 : lts.Need-same-length-3 cl (gen-test-at t) gen-test.Post
-  same-length-3 c = search rules
-
-  returns : lts.Need-returns cl (gen-test-at t) gen-test.Post
-  returns c = search rules
-
   gen-operand-requires : lts.Need-gen-operand-requires cl (gen-test-at t) gen-test.Post
   gen-operand-requires c κs =
       let c1 = c .before .before .before .before in
       let c2 = c1 .before .before in
       let c3 = c2 .before .before .before .before .before in
       let p = picked-one _ _ _ (c1 .t .given .1) (c2 .test-of .ensures) .1 in (tested-operand _ _ (c3 .pre .0) p (c3 .pre .1 .1 .1) (c3 .pre .1 .0), ready-tested (c3 .pre .1 .0) p)
-
-  jump-one-requires : lts.Need-jump-one-requires cl (gen-test-at t) gen-test.Post
-  jump-one-requires c κs = search rules
-
-  same-length-4 : lts.Need-same-length-4 cl (gen-test-at t) gen-test.Post
-  same-length-4 c = search rules
-
-  same-length-5 : lts.Need-same-length-5 cl (gen-test-at t) gen-test.Post
-  same-length-5 c = search rules
-
-  same-length-6 : lts.Need-same-length-6 cl (gen-test-at t) gen-test.Post
-  same-length-6 c = search rules
 
   returns-2 : lts.Need-returns-2 cl (gen-test-at t) gen-test.Post
   returns-2 c =
@@ -73,17 +40,17 @@ module _ (t : ℕ) where
   pub gen-test-holds : (M : Type 1) → lts.Closed cl (gen-test-at t) gen-test.Post M
   gen-test-holds M =
       lts.spec cl (gen-test-at t) gen-test.Post
-      test-of-requires
-      enum-known-t
-      enum-told
+      (λ c κs. search rules)
+      (λ c. search rules)
+      (λ c. search rules)
       gen-pair-requires
-      same-length
-      same-length-2
-      same-length-3
-      returns
+      (λ c. search rules)
+      (λ c. search rules)
+      (λ c. search rules)
+      (λ c. search rules)
       gen-operand-requires
-      jump-one-requires
-      same-length-4
-      same-length-5
-      same-length-6
+      (λ c κs. search rules)
+      (λ c. search rules)
+      (λ c. search rules)
+      (λ c. search rules)
       returns-2

@@ -16,36 +16,12 @@ module _ (t : ℕ) where
   abbrev cl : lts.Claims
   cl = (child-2-reads.Asked, child-2-reads.Learnt, gen-operand-below t, gen-operand.Post, child-1-reads.Asked, child-1-reads.Learnt, kind-at-reads.Asked, kind-at-reads.Learnt, three-of-reads.Asked, three-of-reads.Learnt, put-three-reads.Asked, put-three-reads.Learnt)
 
-  child-2-requires : lts.Need-child-2-requires cl (gen-two-at t) gen-two.Post
-  child-2-requires c κs = search rules
-
-  gen-operand-requires : lts.Need-gen-operand-requires cl (gen-two-at t) gen-two.Post
-  gen-operand-requires c κs = search rules
-
-  enum-known-x : lts.Need-enum-known-x cl (gen-two-at t) gen-two.Post
-  enum-known-x c = search rules
-
-  enum-told : lts.Need-enum-told cl (gen-two-at t) gen-two.Post
-  enum-told c = search rules
-
-  same-length : lts.Need-same-length cl (gen-two-at t) gen-two.Post
-  same-length c = search rules
-
-  same-length-2 : lts.Need-same-length-2 cl (gen-two-at t) gen-two.Post
-  same-length-2 c = search rules
-
-  same-length-3 : lts.Need-same-length-3 cl (gen-two-at t) gen-two.Post
-  same-length-3 c = search rules
-
   returns : lts.Need-returns cl (gen-two-at t) gen-two.Post
   returns c =
       let c1 = c .before .before .before .before .before .before .before .before in
       let c2 = c1 .before in
       let c3 = c2 .before .before .before .before .before .before .before .before in
       two-stop (c3 .pre .1 .0) _ _ (c3 .pre .1 .1) (c2 .child-2 .ensures) (c1 .gen-operand .ensures) (c .enum-told .given .1)
-
-  child-1-requires : lts.Need-child-1-requires cl (gen-two-at t) gen-two.Post
-  child-1-requires c κs = search rules
 
   gen-operand-requires-2 : lts.Need-gen-operand-requires-2 cl (gen-two-at t) gen-two.Post
   gen-operand-requires-2 c κs =
@@ -58,21 +34,6 @@ module _ (t : ℕ) where
   kind-at-requires c κs =
       let c1 = c .before .before .before .before .before .before .before .before .before .before .before .before .before .before .before .before .before .before .before .before .before .before .before .before .before .before .before .before .before .before in
       inside (c1 .pre .1 .0)
-
-  three-of-requires : lts.Need-three-of-requires cl (gen-two-at t) gen-two.Post
-  three-of-requires c κs = search rules
-
-  put-three-requires : lts.Need-put-three-requires cl (gen-two-at t) gen-two.Post
-  put-three-requires c κs = search rules
-
-  same-length-4 : lts.Need-same-length-4 cl (gen-two-at t) gen-two.Post
-  same-length-4 c = search rules
-
-  same-length-5 : lts.Need-same-length-5 cl (gen-two-at t) gen-two.Post
-  same-length-5 c = search rules
-
-  same-length-6 : lts.Need-same-length-6 cl (gen-two-at t) gen-two.Post
-  same-length-6 c = search rules
 
   returns-2 : lts.Need-returns-2 cl (gen-two-at t) gen-two.Post
   returns-2 c =
@@ -90,20 +51,20 @@ module _ (t : ℕ) where
   pub gen-two-holds : (M : Type 1) → lts.Closed cl (gen-two-at t) gen-two.Post M
   gen-two-holds M =
       lts.spec cl (gen-two-at t) gen-two.Post
-      child-2-requires
-      gen-operand-requires
-      enum-known-x
-      enum-told
-      same-length
-      same-length-2
-      same-length-3
+      (λ c κs. search rules)
+      (λ c κs. search rules)
+      (λ c. search rules)
+      (λ c. search rules)
+      (λ c. search rules)
+      (λ c. search rules)
+      (λ c. search rules)
       returns
-      child-1-requires
+      (λ c κs. search rules)
       gen-operand-requires-2
       kind-at-requires
-      three-of-requires
-      put-three-requires
-      same-length-4
-      same-length-5
-      same-length-6
+      (λ c κs. search rules)
+      (λ c κs. search rules)
+      (λ c. search rules)
+      (λ c. search rules)
+      (λ c. search rules)
       returns-2
