@@ -1,2 +1,3 @@
--- The laws that the proofs of `parts` cite.
+-- The laws that the proofs of `parts` cite, and the round trip.
 pub mod Laws
+pub mod RoundTrip
