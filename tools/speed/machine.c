@@ -1,4 +1,4 @@
-/* Times the proved machine against the plain one in one process, in turns, and prints nanoseconds a step and their ratio.
+/* Times the proved machine against the plain one in one process, in short turns, and prints the best nanoseconds a step and their ratio.
    Both must leave the same answer and the same registers. */
 #include "plain.h"
 #include "vosemaqe.h"
@@ -34,22 +34,28 @@ static double turn(const struct job *j, int plain, uint8_t *kinds, uint64_t *pay
 int main(void) {
     struct job jobs[] = {
         {"loop of six", 6, {W(23, 0, 0, 1), W(18, 1, 1, 2), W(4, 3, 1, 0), W(57, 4, 100, 0), W(4, 5, 0, 0), JMP(-6)},
-            {2, 3, 3, 0, 2, 0}, {0, F(1.0), F(1.5), 0, 7, 0}, 30000000, 1},
-        {"a + 5", 1, {5497558139159ull}, {2}, {7}, 100, 3000000},
-        {"a + 32768", 2, {IMM40(1, 131072), W(18, 1, 0, 1)}, {2}, {7}, 100, 3000000},
-        {"a < b ? 1 : 2, Ints", 4, {0x0000020001000033ull, 0x04000203ull, 0x141ull, 0x08000203ull}, {2, 2}, {3, 4}, 100, 3000000},
-        {"a < b ? 1 : 2, Floats", 4, {0x0000020001000033ull, 0x04000203ull, 0x141ull, 0x08000203ull}, {3, 3}, {F(3), F(2)}, 100, 3000000},
-        {"a & 0xFF0", 1, {W(16, 1, 0, 4 | 8 << 6)}, {2}, {0xabcdef}, 100, 3000000},
-        {"a << 3", 1, {W(14, 1, 0, 3)}, {2}, {77}, 100, 3000000},
-        {"a * b - a, Ints", 2, {W(20, 2, 0, 1), W(19, 2, 2, 0)}, {2, 2}, {123456, 789}, 100, 3000000},
-        {"a / b, Floats", 1, {W(21, 2, 0, 1)}, {3, 3}, {F(3), F(7)}, 100, 3000000},
-        {"slot, mov", 2, {5ull | 1ull << 8, W(4, 2, 1, 0)}, {2}, {7}, 100, 3000000},
+            {2, 3, 3, 0, 2, 0}, {0, F(1.0), F(1.5), 0, 7, 0}, 100000, 1},
+        {"a + 5", 1, {5497558139159ull}, {2}, {7}, 100, 10000},
+        {"a + 32768", 2, {IMM40(1, 131072), W(18, 1, 0, 1)}, {2}, {7}, 100, 10000},
+        {"a < b ? 1 : 2, Ints", 4, {0x0000020001000033ull, 0x04000203ull, 0x141ull, 0x08000203ull}, {2, 2}, {3, 4}, 100, 10000},
+        {"a < b ? 1 : 2, Floats", 4, {0x0000020001000033ull, 0x04000203ull, 0x141ull, 0x08000203ull}, {3, 3}, {F(3), F(2)}, 100, 10000},
+        {"a & 0xFF0", 1, {W(16, 1, 0, 4 | 8 << 6)}, {2}, {0xabcdef}, 100, 10000},
+        {"a << 3", 1, {W(14, 1, 0, 3)}, {2}, {77}, 100, 10000},
+        {"a * b - a, Ints", 2, {W(20, 2, 0, 1), W(19, 2, 2, 0)}, {2, 2}, {123456, 789}, 100, 10000},
+        {"a / b, Floats", 1, {W(21, 2, 0, 1)}, {3, 3}, {F(3), F(7)}, 100, 10000},
+        {"a + 5, on a Float", 1, {5497558139159ull}, {3}, {F(7)}, 100, 10000},
+        {"a < 5 ? 1 : 2, on a Float", 4, {W(61, 0, 5, 2), 0x04000203ull, 0x141ull, 0x08000203ull}, {3}, {F(7)}, 100, 10000},
+        {"a + b, Int and Float", 1, {W(18, 2, 0, 1)}, {2, 3}, {7, F(0.5)}, 100, 10000},
+        {"a / b, Ints", 1, {W(21, 2, 0, 1)}, {2, 2}, {7, 3}, 100, 10000},
+        {"!a", 1, {W(26, 2, 0, 0)}, {1}, {1}, 100, 10000},
+        {"a == b ? 1 : 2, Bools", 4, {W(46, 0, 1, 2), 0x04000203ull, 0x141ull, 0x08000203ull}, {1, 1}, {1, 1}, 100, 10000},
+        {"slot, mov", 2, {5ull | 1ull << 8, W(4, 2, 1, 0)}, {2}, {7}, 100, 10000},
     };
     int bad = 0;
     printf("%-24s %8s %8s %6s\n", "ns a step", "proved", "plain", "ratio");
     for (size_t i = 0; i < sizeof jobs / sizeof *jobs; i++) {
         uint8_t k[2][REGS]; uint64_t p[2][REGS], r[2][3]; double best[2] = {1e9, 1e9};
-        for (int n = 0; n < 7; n++)
+        for (int n = 0; n < 400; n++)
             for (int plain = 0; plain < 2; plain++) {
                 double t = turn(&jobs[i], plain, k[plain], p[plain], r[plain]);
                 if (t < best[plain]) best[plain] = t;

@@ -34,9 +34,11 @@ mod c {
     }
 }
 
-/// The functions' addresses, for callers that bring a stack of their own.
-pub fn addresses() -> [usize; 4] {
-    [c::vosemaqe_compile as *const () as usize, c::vosemaqe_compile_with as *const () as usize, c::vosemaqe_evaluate as *const () as usize, c::vosemaqe_run as *const () as usize]
+/// The functions' addresses, for callers that bring a stack of their own:
+/// compile, compile_with, evaluate, run, run_part, check.
+pub fn addresses() -> [usize; 6] {
+    [c::vosemaqe_compile as *const (), c::vosemaqe_compile_with as *const (), c::vosemaqe_evaluate as *const (), c::vosemaqe_run as *const (),
+        c::vosemaqe_run_part as *const (), c::vosemaqe_check as *const ()].map(|f| f as usize)
 }
 
 /// What a lent buffer or a result holds before the call: no zero, and

@@ -213,6 +213,12 @@ impl Large {
         let start = self.r.below(c.words.len() as u64 + 2);
         let budget = self.r.below(c.words.len() as u64 + 2);
         self.run(&c.words, None, start, &lent, &slots, budget);
+        // one bit of one word, or its opcode, is another
+        if !c.words.is_empty() {
+            let (mut words, at) = (c.words.clone(), self.r.below(c.words.len() as u64) as usize);
+            if self.r.chance(50) { words[at] ^= 1 << self.r.below(64) } else { words[at] = words[at] & !0xFF | self.r.below(90) }
+            self.run(&words, None, 0, &all, &slots, 2 * c.words.len() as u64);
+        }
         // between other words, with the right bounds and near them
         let (front, back) = (self.r.below(3), self.r.below(3));
         let mut store = vec![0x41u64; front as usize];

@@ -4,9 +4,12 @@
 //! The most is printed over chains of every kind, in every place and over
 //! several leaves, and over chains mixed at random.
 //!     stack [random chains for each depth]
-//!     objdump -d --no-show-raw-insn --demangle ARCHIVE | stack frames
+//!     objdump -d --no-show-raw-insn --demangle stack | stack frames
+//! Prints the frame of each function, and for those that do not recurse the
+//! deepest way of calls.
 use boundary::{shapes, Made, Room};
 use std::arch::asm;
+use std::collections::BTreeMap;
 use std::io::BufRead;
 use tables::gen::{Rng, FLOATS};
 use tables::*;
@@ -60,7 +63,7 @@ struct Measured { with: Most, small: Most, large: Most, evaluate: Most, run: Mos
 
 /// One table through compile_with, compile, evaluate and run.
 fn table(s: &mut Stack, m: &mut Measured, b: &Builder, name: &str) {
-    let [compile, compile_with, evaluate, run] = boundary::addresses();
+    let [compile, compile_with, evaluate, run, ..] = boundary::addresses();
     let j = b.job(2);
     let (t, n) = (&j.table, j.table.len() / 4);
     let mut made = Made::lend(Room { jumps: Some(n), ..Room::new(4 * n, n) });
@@ -110,25 +113,71 @@ fn measure(depth: u64, random: u64) -> Measured {
     m
 }
 
-/// The frame of each function, by its prologue: registers saved, bytes taken,
-/// the return address.
-fn frames() {
-    let mut all: Vec<(u64, String)> = vec![];
-    let mut open = false;
-    for line in std::io::stdin().lock().lines() {
-        let line = line.unwrap();
-        if let Some(name) = line.strip_suffix(">:").and_then(|l| l.split_once('<')) { all.push((8, name.1.into())); open = true; continue }
+/// A function of the linked program: its greatest depth of stack, the return
+/// address included, and the depth at which it calls each other one.
+#[derive(Default)]
+struct Frame { most: i64, calls: BTreeMap<String, i64> }
+
+/// Reads a disassembly from top to bottom. What follows a return starts again
+/// at the depth of the function's body.
+fn read_frames() -> BTreeMap<String, Frame> {
+    let mut all: BTreeMap<String, Frame> = BTreeMap::new();
+    let (mut name, mut now, mut body) = (String::new(), 8, 0);
+    for line in std::io::stdin().lock().lines().map(|l| l.unwrap()) {
+        if let Some((_, n)) = line.strip_suffix(">:").and_then(|l| l.split_once('<')) { (name, now, body) = (n.into(), 8, 0); all.entry(n.into()).or_default(); continue }
         let Some((_, insn)) = line.split_once(":\t") else { continue };
-        let Some(last) = all.last_mut().filter(|_| open) else { continue };
-        match insn.split_whitespace().collect::<Vec<_>>()[..] {
-            ["push", _] => last.0 += 8,
-            ["sub", by] if by.ends_with(",%rsp") => last.0 += u64::from_str_radix(by.trim_start_matches("$0x").trim_end_matches(",%rsp"), 16).unwrap(),
-            ["call" | "ret" | "pop" | "jmp", ..] => open = false,
-            _ => {}
+        let f = all.entry(name.clone()).or_default();
+        let imm = |s: &str| i64::from_str_radix(s.trim_start_matches("$0x").split(',').next().unwrap(), 16).unwrap_or_else(|_| u64::from_str_radix(&s[3..s.find(',').unwrap()], 16).unwrap() as i64);
+        let (op, rest) = insn.split_once(' ').map_or((insn, ""), |(o, r)| (o, r.trim()));
+        match op {
+            "push" => now += 8,
+            "pop" => now -= 8,
+            "sub" if rest.ends_with(",%rsp") => { now += imm(rest); if body == 0 { body = now } }
+            "add" if rest.ends_with(",%rsp") => now -= imm(rest),
+            _ => if body == 0 && !op.starts_with("mov") && op != "xor" && op != "lea" { body = now },
+        }
+        f.most = f.most.max(now);
+        if let Some(to) = rest.split_once('<').map(|t| t.1.trim_end_matches('>')).filter(|t| op == "call" || op == "jmp" && !t.contains("+0x")) {
+            let d = f.calls.entry(to.into()).or_default();
+            *d = (*d).max(if op == "call" { now } else { 0 });
+        }
+        if op == "ret" || op == "jmp" { now = body.max(8) }
+    }
+    all
+}
+
+/// The deepest way from a function, none where it comes back to itself.
+fn deepest(all: &BTreeMap<String, Frame>, f: &str, over: &mut Vec<String>) -> Option<(i64, Vec<String>)> {
+    let Some(frame) = all.get(f) else { return Some((8, vec![f.into()])) };
+    if over.iter().any(|o| o == f) { return None }
+    over.push(f.into());
+    let mut best = (frame.most, vec![]);
+    for (to, at) in &frame.calls {
+        let (d, way) = deepest(all, to, over)?;
+        if at + d > best.0 { best = (at + d, way) }
+    }
+    over.pop();
+    best.1.insert(0, f.into());
+    Some(best)
+}
+
+fn frames() {
+    let all = read_frames();
+    let mut reached: Vec<String> = all.keys().filter(|n| n.starts_with("vosemaqe_")).cloned().collect();
+    let roots = reached.clone();
+    let mut i = 0;
+    while i < reached.len() {
+        if let Some(f) = all.get(&reached[i]) { for to in f.calls.keys() { if !reached.contains(to) { reached.push(to.clone()) } } }
+        i += 1;
+    }
+    reached.sort_by_key(|n| all.get(n).map_or(0, |f| -f.most));
+    for n in reached { if let Some(f) = all.get(&n) { println!("{:6} {n}", f.most) } }
+    for r in roots {
+        match deepest(&all, &r, &mut vec![]) {
+            Some((bytes, way)) => println!("{r}: no recursion, {bytes} bytes at most: {}", way.join(" > ")),
+            None => println!("{r}: recursion"),
         }
     }
-    all.sort_by(|a, b| b.cmp(a));
-    for (bytes, name) in all { println!("{bytes:6} {name}") }
 }
 
 fn main() {
@@ -137,10 +186,10 @@ fn main() {
     let depths = [1, 16, 64];
     let all: Vec<Measured> = depths.iter().map(|d| measure(*d, random)).collect();
     let rows: [(&str, fn(&Measured) -> &Most); 5] = [
-        ("compile_with", |m| &m.with), ("compile, up to 64 nodes", |m| &m.small), ("compile, more nodes", |m| &m.large), ("evaluate", |m| &m.evaluate), ("run", |m| &m.run)];
+        ("compile", |m| if m.large.bytes > m.small.bytes { &m.large } else { &m.small }), ("compile, up to 64 nodes", |m| &m.small), ("compile_with", |m| &m.with), ("evaluate", |m| &m.evaluate), ("run", |m| &m.run)];
     println!("{:<26} {:>8} {:>8} {:>8} {:>8}  the chain that takes most at depth 64", "bytes at depth", depths[0], depths[1], depths[2], "a level");
-    for (name, of) in rows {
+    for (i, (name, of)) in rows.into_iter().enumerate() {
         let b: Vec<f64> = all.iter().map(|m| of(m).bytes as f64).collect();
-        println!("{name:<26} {:>8} {:>8} {:>8} {:>8.0}  {}", b[0], b[1], b[2], (b[2] - b[1]) / 48.0, of(&all[2]).what);
+        println!("{name:<26} {:>8} {:>8} {:>8} {:>8.0}  {}", b[0], b[1], b[2], if i == 1 { (b[1] - b[0]) / 15.0 } else { (b[2] - b[1]) / 48.0 }, of(&all[2]).what);
     }
 }
