@@ -1,7 +1,7 @@
 /* vosemaqe.h: expressions over registers, checked, compiled to instruction words, evaluated and run.
  *
- * This header is the manual of libvosemaqe.a (x86-64 Linux; link nothing beside it but a C library, for memset). Every function is proved
- * to give what is written here, on every input; docs/CLAIMS.md says by which theorem.
+ * This header is the manual of libvosemaqe.a (x86-64 Linux; link nothing beside it but a C library, for memset). What each function returns and leaves
+ * behind is proved, on every input (docs/CLAIMS.md); bytes of stack are measured (docs/STACK.md); docs/TRUST.md says what is trusted.
  *
  *     rt staticlib vosemaqe                           proves the library and writes target/staticlib/libvosemaqe.a
  *     cc -Iinclude prog.c target/staticlib/libvosemaqe.a
@@ -13,7 +13,7 @@
  *   - It reads and writes only what it is lent. It allocates nothing, keeps nothing, has no state and calls nothing. So any number of
  *     threads may call at once, each with buffers of its own; a buffer that is only read may be shared.
  *   - Every result cell is written: it holds 0 where the number is not 0, but for the steps and the position of a run, which a stopped run has too.
- *   - Its stack is bounded: docs/STACK.md has the figure of each function. No depth of an expression takes more.
+ *   - Its stack is bounded: recursion ends at VOSEMAQE_MAX_DEPTH. 64 KiB are room for every function and every table; docs/STACK.md has the figure of each.
  *
  * WHAT THE CALLER OWES
  *

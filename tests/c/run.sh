@@ -12,6 +12,9 @@ flags="-std=c11 -Wall -Wextra -Werror -O1 -Iinclude"
 if [ "$(uname -m)" = x86_64 ]; then
     ${CC:-cc} $flags tests/c/boundary.c "$archive" -o "$out/boundary"
     "$out/boundary"
+    sed -n '/^```c$/,/^```$/p' README.md | sed '/^```/d' >"$out/readme.c"
+    ${CC:-cc} $flags "$out/readme.c" "$archive" -o "$out/readme"
+    grep -qF "\`$("$out/readme")\`" README.md || { echo "boundary: README's example does not write what README says"; exit 1; }
     echo '#include "vosemaqe.h"' | ${CC:-cc} -x c++ -Wall -Wextra -Werror -Iinclude -fsyntax-only -
 else
     home=$(dirname "$(dirname "$(rt doc)")")
