@@ -20,6 +20,7 @@
  *   - A pointer and its length describe memory that is the caller's, aligned for its type. A pointer whose length is 0 is never followed: it may be null.
  *     A result cell is one uint64_t and is never null.
  *   - What is written may not overlap anything else that is lent to the same call, result cells included. What is only read may.
+ *   - The processor's float control is as a process starts with it: rounding to nearest, subnormal numbers kept (no -ffast-math when linking).
  *
  * VALUES are lent as pairs, a kind byte and a 64-bit payload, in two arrays. Where the two have different lengths the shorter counts. A pair that
  * is none of these is ill-formed (29):
