@@ -10,7 +10,7 @@
  *
  *   - It returns a number: 0 for done, else why not (enum vosemaqe_number). It returns on every input; the only function whose time is not
  *     bounded by the length of what it is lent is the machine, and that is bounded by its budget.
- *   - It reads and writes only what it is lent. It allocates nothing, keeps nothing, has no state and calls nothing. So any number of
+ *   - It reads and writes only what it is lent. It allocates nothing, keeps nothing, has no state, and calls nothing but memset. So any number of
  *     threads may call at once, each with buffers of its own; a buffer that is only read may be shared.
  *   - Every result cell is written: it holds 0 where the number is not 0, but for the steps and the position of a run, which a stopped run has too.
  *   - Its stack is bounded: recursion ends at VOSEMAQE_MAX_DEPTH. 64 KiB are room for every function and every table; docs/STACK.md has the figure of each.
@@ -35,6 +35,16 @@
  * of node i is i - 1, the child before it ends just before that one's `first`. `first` is the lowest node of the subtree; `depth` is 1 for a leaf,
  * else one more than the deepest child's. The payload is 0 but for an Int (two's complement), a Float (bits) and a Ref (a register).
  * The layout is `params` + `locals`, the base: a Ref, and a destination, is below it. `dest` is 0 for none, r + 1 for register r.
+ *
+ * WHAT AN EXPRESSION MEANS, evaluated or run: left before right; within one operation 20, 23, 22 or 24, 21.
+ *
+ *   - ADD, SUB, MUL: two Ints give the exact Int, or 21; with a Float, an Int in -2^53..2^53 converts exactly and any other is 23. MINUS is MUL by Int -1.
+ *     DIV converts both to Float. Floats as IEEE 754 says, to nearest, ties to even; a NaN that arithmetic yields is 0x7FF8000000000000.
+ *   - MOD: Ints, the sign of the dividend, 22 for a zero divisor. BIT_AND, BIT_OR, BIT_XOR: Ints. LSHIFT: exact, or 21; RSHIFT rounds toward minus
+ *     infinity; an amount outside 0..63 is 24.
+ *   - LT, LE, GT, GE: numbers; a NaN is unordered. EQ, NE: any values; different kinds are unequal, but an Int and a Float are compared as numbers, under the
+ *     conversion rule above.
+ *   - AND, OR, NOT and a TERNARY's test want a Bool (20), and skip what they need not evaluate.
  */
 #ifndef VOSEMAQE_H
 #define VOSEMAQE_H
@@ -78,8 +88,8 @@ enum vosemaqe_number {
 #define VOSEMAQE_MAX_DEPTH 64
 #define VOSEMAQE_MAX_REGISTERS 65535
 
-/* What to lend. A compile of n nodes makes at most 4 * n words, at most n constants, and needs at most (n + 1) / 2 places in a jump list;
- * with this much it is refused only for its table, or for registers (5). A run needs as many registers as the frame that compile reports. */
+/* What to lend. A compile of n nodes makes at most 4 * n words, one constant at most for each Int or Float node, and needs at most (n + 1) / 2 places in a
+ * jump list; with this much it is refused only for its table, or for registers (5). A run needs as many registers as the frame that compile reports. */
 #define VOSEMAQE_NODE_WORDS 4
 #define VOSEMAQE_WORDS_FOR(nodes) (4 * (nodes))
 #define VOSEMAQE_SLOTS_FOR(nodes) (nodes)

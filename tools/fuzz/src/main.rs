@@ -162,9 +162,10 @@ impl Fuzz {
         let mut want = self.oracle.compile(&j);
         // a short list may run out first, or may not
         if with && jumps < places && number == 7 { want = Err(Refused(7)) }
+        let literals = j.table.chunks(4).filter(|n| matches!(n[0], tables::INT | tables::FLOAT)).count();
         let pad = |mut v: Vec<u64>, n: usize| { v.resize(n, 0); v };
         let ok = match &want {
-            Ok(w) => number == 0 && self.cells.holds(&[w.words.len() as u64, w.consts.len() as u64, w.reg as u64, w.frame as u64])
+            Ok(w) => number == 0 && w.words.len() <= j.table.len() && w.consts.len() <= literals && self.cells.holds(&[w.words.len() as u64, w.consts.len() as u64, w.reg as u64, w.frame as u64])
                 && self.code.holds(&pad(w.words.clone(), room))
                 && self.slot_kinds.holds(&pad(w.consts.iter().map(|p| p.0 as u64).collect(), kinds).iter().map(|k| *k as u8).collect::<Vec<u8>>())
                 && self.slot_payloads.holds(&pad(w.consts.iter().map(|p| p.1).collect(), payloads)),
