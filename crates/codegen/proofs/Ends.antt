@@ -20,8 +20,8 @@ use Rattle.emit.specs.declared.state.Dst.the-variants.{Any, To}
 use Rattle.emit.specs.declared.state.Ans.{Ans}
 use Rattle.emit.specs.State.{Res, done, State}
 use Rattle.emit.specs.Read.{Bufs, bufs, stOf, constAt, Says}
-use Rattle.codegen.specs.Gen.{Value, intoD}
-use Rattle.codegen.specs.Rules.{Ready}
+use Rattle.rules.specs.Gen.{Value, intoD}
+use Rattle.rules.specs.Rules.{Ready}
 use Rattle.codegen.specs.Compile.{zeroed, padded, slotKind, Root, IsRegister, dstOf, rootD, Made, Filled, Compiles}
 use Rattle.emit.proofs.Laws.{says-by}
 

@@ -22,10 +22,10 @@ use Rattle.emit.specs.declared.state.Ans.{Ans}
 use Rattle.emit.specs.declared.state.Ans.the-variants.{Got, No}
 use Rattle.emit.specs.State.{Res, done, fail, State}
 use Rattle.emit.specs.Read.{Bufs, bufs, stOf, constAt, read, Fit, Says}
-use Rattle.codegen.specs.Gen.{gen}
+use Rattle.rules.specs.Gen.{gen}
 use Rattle.codegen.specs.Compile.{padded, zeroed, start, dstOf, rootD, generated, accepted, compileOf, Root, IsRegister, Made, Compiles}
 use Rattle.emit.proofs.Laws.{kept, says-by}
-use Rattle.codegen.proofs.Room.{same-room, into-same}
+use Rattle.rules.proofs.Room.{same-room, into-same}
 
 -- ---- a checked table
 

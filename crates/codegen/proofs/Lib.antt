@@ -1,11 +1,5 @@
--- The laws that the proofs of the rules and of compile cite.
-pub mod Gens
+-- The laws that the proofs of compile cite.
 pub mod Parts
-pub mod Walk
-pub mod Values
-pub mod Branches
-pub mod Room
 pub mod Ends
 pub mod Fills
 pub mod Entries
-pub mod Samples

@@ -16,7 +16,7 @@ use Rattle.emit.specs.declared.state.Ans.{Ans}
 use Rattle.codegen.specs.declared.compile.Compiled.{Compiled}
 use Rattle.codegen.specs.declared.compile.Compiled.the-variants.{Done, Refused}
 use Rattle.emit.specs.State.{Res, done, fail, State}
-use Rattle.codegen.specs.Gen.{Value, intoD, gen}
+use Rattle.rules.specs.Gen.{Value, intoD, gen}
 use Rattle.emit.specs.Read.{Bufs, bufs, constAt, Fit}
 
 -- nothing is emitted yet, and the first free register is the base

@@ -1,4 +1,3 @@
--- What the contracts of the generator cite: what each tree gives, what a rule says at a node, and what compiling leaves.
+-- What the contracts of compiling cite: what it answers and leaves. `Gen` passes on the definition of the rules.
 pub mod Gen
-pub mod Rules
 pub mod Compile

@@ -1,9 +1,9 @@
 // The entries: a node table is checked, its words and constants are made, and what follows them is zeroed.
-use crate::rules::gen_code_inner;
-use crate::rules::gen_into;
 use emit::state::Ans;
 use emit::state::Dst;
 use emit::state::St;
+use rules::cycle::gen_code_inner;
+use rules::cycle::gen_into;
 use table::Dest;
 ghost use mathlib.Core.Path.{_≡_};
 ghost use Prim.Native.Nat.{ℕ, _+_, _-_, _<_, _≤_, min};
@@ -13,7 +13,7 @@ ghost use Rattle.table.specs.Table.{nodeCount, tempBase, checkOf};
 ghost use Rattle.table.specs.Tree.{tree};
 ghost use Rattle.emit.specs.State.{done, fail};
 ghost use Rattle.emit.specs.Read.{bufs, stOf, Says};
-ghost use Rattle.codegen.specs.Rules.{valueAt};
+ghost use Rattle.rules.specs.Rules.{valueAt};
 ghost use Rattle.codegen.specs.Compile.{zeroed, slotKind, Named, Filled, Root, IsRegister, Made, dstOf, rootD, start, generated, compileOf, Compiles};
 
 // What compiling answers: how many words and constants, the register that holds the value and the frame's size; or the number of a refusal.

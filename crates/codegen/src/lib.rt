@@ -1,3 +1,2 @@
-// The generator: the value, branch and move rules in one cycle of calls (`rules`), and compiling a node table (`compile`).
+// Compiling a node table: the check, the rules, and what is left in the lent buffers.
 pub mod compile;
-pub mod rules;

@@ -2,7 +2,7 @@
 use mathlib.Core.Path.{_∙_}
 use lib.Seq.{length-take-le}
 use Rattle.emit.proofs.Laws.{kept, says-by}
-use Rattle.codegen.proofs.Parts.{prefix}
+use Rattle.rules.proofs.Parts.{prefix}
 use Rattle.codegen.proofs.Entries.{checked-root, checked-layout, checked-dest, smaller-right, back-length, made, lengths, generated-done, generated-refused, root-generated}
 use borrow.Author.Needs.{needs}
 use Rattle.codegen.proofs.compile.generate.Statement.{statement}

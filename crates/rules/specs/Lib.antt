@@ -1,0 +1,3 @@
+-- What the contracts of the rules cite: what each tree gives, and what a rule says at a node.
+pub mod Gen
+pub mod Rules
