@@ -118,30 +118,30 @@ fn measure(depth: u64, random: u64) -> Measured {
 #[derive(Default)]
 struct Frame { most: i64, calls: BTreeMap<String, i64> }
 
-/// Reads a disassembly from top to bottom. What follows a return starts again
-/// at the depth of the function's body.
+/// Reads a disassembly from top to bottom. What follows a return or a jump
+/// is taken to stand at the depth of the function's body.
 fn read_frames() -> BTreeMap<String, Frame> {
     let mut all: BTreeMap<String, Frame> = BTreeMap::new();
-    let (mut name, mut now, mut body) = (String::new(), 8, 0);
+    let (mut name, mut now, mut body, mut taken) = (String::new(), 8, 8, false);
     for line in std::io::stdin().lock().lines().map(|l| l.unwrap()) {
-        if let Some((_, n)) = line.strip_suffix(">:").and_then(|l| l.split_once('<')) { (name, now, body) = (n.into(), 8, 0); all.entry(n.into()).or_default(); continue }
+        if let Some((_, n)) = line.strip_suffix(">:").and_then(|l| l.split_once('<')) { (name, now, body, taken) = (n.into(), 8, 8, false); all.entry(n.into()).or_default(); continue }
         let Some((_, insn)) = line.split_once(":\t") else { continue };
         let f = all.entry(name.clone()).or_default();
         let imm = |s: &str| i64::from_str_radix(s.trim_start_matches("$0x").split(',').next().unwrap(), 16).unwrap_or_else(|_| u64::from_str_radix(&s[3..s.find(',').unwrap()], 16).unwrap() as i64);
         let (op, rest) = insn.split_once(' ').map_or((insn, ""), |(o, r)| (o, r.trim()));
         match op {
-            "push" => now += 8,
+            "push" => { now += 8; if !taken { body = now } }
             "pop" => now -= 8,
-            "sub" if rest.ends_with(",%rsp") => { now += imm(rest); if body == 0 { body = now } }
+            "sub" if rest.ends_with(",%rsp") => { (now, taken) = (now + imm(rest), true); body = body.max(now) }
             "add" if rest.ends_with(",%rsp") => now -= imm(rest),
-            _ => if body == 0 && !op.starts_with("mov") && op != "xor" && op != "lea" { body = now },
+            _ => {}
         }
         f.most = f.most.max(now);
         if let Some(to) = rest.split_once('<').map(|t| t.1.trim_end_matches('>')).filter(|t| op == "call" || op == "jmp" && !t.contains("+0x")) {
             let d = f.calls.entry(to.into()).or_default();
             *d = (*d).max(if op == "call" { now } else { 0 });
         }
-        if op == "ret" || op == "jmp" { now = body.max(8) }
+        if op == "ret" || op == "jmp" { now = body }
     }
     all
 }
@@ -175,10 +175,43 @@ fn frames() {
     for r in roots {
         match deepest(&all, &r, &mut vec![]) {
             Some((bytes, way)) => println!("{r}: no recursion, {bytes} bytes at most: {}", way.join(" > ")),
-            None => println!("{r}: recursion"),
+            None => {
+                let (before, level, below, cycle) = recursion(&all, &r);
+                println!("{r}: {before} before and {below} below the recursion, {level} a level ({}): {} bytes at most at depth {MAX_DEPTH}", cycle.join(" + "), before + MAX_DEPTH as i64 * level + below);
+            }
         }
     }
 }
+
+/// For a function that recurses: the bytes before the first of the functions
+/// that come back to themselves, what those take together (each comes at most
+/// once a level, since the measure that is proved to fall is made of depth
+/// and rule), and what the deepest call out of them takes.
+fn recursion(all: &BTreeMap<String, Frame>, root: &str) -> (i64, i64, i64, Vec<String>) {
+    let reaches = |from: &str| {
+        let mut seen: Vec<&String> = vec![];
+        let mut todo: Vec<&String> = all[from].calls.keys().collect();
+        while let Some(f) = todo.pop() {
+            if seen.contains(&f) { continue }
+            seen.push(f);
+            if let Some(frame) = all.get(f) { todo.extend(frame.calls.keys()) }
+        }
+        seen.into_iter().cloned().collect::<Vec<_>>()
+    };
+    let cycle: Vec<String> = reaches(root).into_iter().filter(|f| all.contains_key(f) && reaches(f).contains(f)).collect();
+    let below = cycle.iter().flat_map(|f| all[f].calls.iter().filter(|c| !cycle.contains(c.0)).map(move |(to, at)| (f, to, at)))
+        .map(|(f, to, at)| at - all[f].most + deepest(all, to, &mut vec![]).map_or(0, |d| d.0)).max().unwrap_or(0).max(0);
+    (before(all, root, &cycle).unwrap_or(0), cycle.iter().map(|f| all[f].most).sum(), below, cycle)
+}
+
+/// The most that is taken on the way from a function into the cycle.
+fn before(all: &BTreeMap<String, Frame>, f: &str, cycle: &[String]) -> Option<i64> {
+    if cycle.iter().any(|c| c == f) { return Some(0) }
+    all.get(f)?.calls.iter().filter_map(|(to, at)| Some(at + before(all, to, cycle)?)).max()
+}
+
+/// What docs/STACK.md tells a caller to reserve, in the order of the rows.
+const RESERVE: [usize; 5] = [64 << 10, 64 << 10, 48 << 10, 16 << 10, 1 << 10];
 
 fn main() {
     if std::env::args().nth(1).as_deref() == Some("frames") { return frames() }
@@ -188,8 +221,11 @@ fn main() {
     let rows: [(&str, fn(&Measured) -> &Most); 5] = [
         ("compile", |m| if m.large.bytes > m.small.bytes { &m.large } else { &m.small }), ("compile, up to 64 nodes", |m| &m.small), ("compile_with", |m| &m.with), ("evaluate", |m| &m.evaluate), ("run", |m| &m.run)];
     println!("{:<26} {:>8} {:>8} {:>8} {:>8}  the chain that takes most at depth 64", "bytes at depth", depths[0], depths[1], depths[2], "a level");
+    let mut over = 0;
     for (i, (name, of)) in rows.into_iter().enumerate() {
         let b: Vec<f64> = all.iter().map(|m| of(m).bytes as f64).collect();
         println!("{name:<26} {:>8} {:>8} {:>8} {:>8.0}  {}", b[0], b[1], b[2], if i == 1 { (b[1] - b[0]) / 15.0 } else { (b[2] - b[1]) / 48.0 }, of(&all[2]).what);
+        if of(&all[2]).bytes > RESERVE[i] { println!("{name}: more than the {} that a caller reserves", RESERVE[i]); over += 1 }
     }
+    runner::finish(format!("stack: {over} over what a caller reserves"), over)
 }
