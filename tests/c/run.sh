@@ -1,6 +1,7 @@
 #!/usr/bin/env bash
 # The C boundary from C: tests/c/run.sh [ARCHIVE]. Holds the header to the sources, compiles boundary.c against it and the archive, which is built and
-# proved here if none is given, runs it, and looks at what the archive asks of its surroundings. Natively on x86-64, else under the kit's emulator.
+# proved here if none is given, runs it and README's example, and looks at what the archive asks of its surroundings. Natively on x86-64; elsewhere the C
+# program alone, by the kit's compiler and under its emulator, with this machine's headers.
 set -euo pipefail
 cd "$(dirname "$0")/../.."
 tests/c/names.sh
@@ -19,7 +20,8 @@ if [ "$(uname -m)" = x86_64 ]; then
 else
     home=$(dirname "$(dirname "$(rt doc)")")
     kit=$home/on/$(uname -m)/toolchain libs=$home/toolchain/lib
-    "$kit/bin/clang" --target=x86_64-linux-gnu $flags -fPIE -c tests/c/boundary.c -o "$out/boundary.o"
+    headers="-isystem $(${CC:-cc} -print-file-name=include) -isystem /usr/include/$(uname -m)-linux-gnu -isystem /usr/include"
+    "$kit/bin/clang" --target=x86_64-linux-gnu $flags $headers -fPIE -c tests/c/boundary.c -o "$out/boundary.o"
     "$kit/bin/ld.lld" -pie -dynamic-linker "$libs/ld-linux-x86-64.so.2" -o "$out/boundary" "$libs/Scrt1.o" "$libs/crti.o" "$libs/crtbeginS.o" \
         "$out/boundary.o" "$archive" "$libs/libc.so.6" "$libs/libc_nonshared.a" "$libs/libgcc.a" "$libs/crtendS.o" "$libs/crtn.o"
     "$kit/bin/qemu-x86_64" "$libs/ld-linux-x86-64.so.2" --library-path "$libs" "$out/boundary"
