@@ -15,8 +15,8 @@ use Rattle.insns.specs.declared.op.Shift.{Shift}
 use Rattle.insns.specs.declared.op.Cmp.{Cmp as JumpCmp}
 use Rattle.insns.specs.declared.op.Imm40.{Imm40}
 use Rattle.insns.specs.declared.op.Imm16.{Imm16 as Small}
-use Rattle.decode.specs.declared.patch.Branch.{Branch as Jump}
-use Rattle.decode.specs.declared.patch.Branch.the-variants.{Jmp}
+use Rattle.patch.specs.declared.Branch.{Branch as Jump}
+use Rattle.patch.specs.declared.Branch.the-variants.{Jmp}
 use Rattle.value.specs.Value.{Datum}
 use Rattle.value.specs.Value as Val
 use Rattle.table.specs.Tree.{Tree, leaf, unary, binary, ternary, Leaf, nil, yep, nope, int, float, ref, Unary, minus, neg, Cmp, Binary, arith, cmp, and, or, RefBelow, RefsBelow}

@@ -17,7 +17,7 @@ use Rattle.insns.specs.Fields.{Field, twos, isRaw, rawBits, raw, pack, allFit, 
 use Rattle.insns.specs.Insns.{opOf, formOf, fieldsOf, madeOf}
 use Rattle.decode.specs.Decode.{decodeOf}
 use Rattle.decode.specs.declared.Decoded.{Decoded}
-use Rattle.decode.specs.declared.patch.Branch.{Branch}
+use Rattle.patch.specs.declared.Branch.{Branch}
 use Rattle.emit.specs.declared.fold.Tail.{Tail}
 use Rattle.emit.specs.declared.fold.Tail.the-variants as Tail
 use Rattle.emit.specs.Fold.{fitsImm40, tailOp}

@@ -16,8 +16,8 @@ use Rattle.insns.specs.declared.op.Sense.the-variants as Sense
 use Rattle.insns.specs.declared.op.Imm16.{Imm16 as Small}
 use Rattle.insns.specs.declared.op.Imm40.{Imm40}
 use Rattle.insns.specs.declared.op.Cmp.{Cmp as JumpCmp}
-use Rattle.decode.specs.Patch.{branchBy}
-use Rattle.decode.specs.declared.patch.Branch.{Branch}
+use Rattle.patch.specs.Patch.{branchBy}
+use Rattle.patch.specs.declared.Branch.{Branch}
 use Rattle.value.specs.Value.{Datum}
 use Rattle.value.specs.Value as Val
 use Rattle.table.specs.Tree.{Tree, leaf, unary, binary, ternary, Leaf, nil, yep, nope, int, float, ref, Unary, minus, neg, Cmp, Binary, arith, cmp, and, or}

@@ -10,12 +10,12 @@ use lib.ListN.{length, length-append}
 use lib.Seq.{getD-at, set-at}
 use borrow.Author.Tests.{lt-ltb, le-ltb}
 use Rattle.insns.specs.declared.op.Disp.{Disp}
-use Rattle.decode.specs.declared.patch.Branch.{Branch}
-use Rattle.decode.specs.declared.patch.Branching.{Branching}
-use Rattle.decode.specs.declared.patch.Reach.{Reach}
-use Rattle.decode.specs.declared.patch.Aimed.{Aimed}
-use Rattle.decode.specs.declared.patch.Patched.{Patched}
-use Rattle.decode.specs.Patch.{difference, reachOf, branchOf, branchBy, aimWord, Patching, isDone, pickPatching, patchOf, patchAll}
+use Rattle.patch.specs.declared.Branch.{Branch}
+use Rattle.patch.specs.declared.Branching.{Branching}
+use Rattle.patch.specs.declared.Reach.{Reach}
+use Rattle.patch.specs.declared.Aimed.{Aimed}
+use Rattle.patch.specs.declared.Patched.{Patched}
+use Rattle.patch.specs.Patch.{difference, reachOf, branchOf, branchBy, aimWord, Patching, isDone, pickPatching, patchOf, patchAll}
 use Rattle.agree.proofs.Frag.{aimed}
 use Rattle.agree.proofs.Fits.{word, made, reads, far, BranchFits, branch-fits}
 

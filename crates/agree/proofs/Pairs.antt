@@ -12,10 +12,10 @@ use mir.Facts.{fits-ofZ}
 use borrow.Author.Tests.{le-ltb, eqb-true, eqb-false}
 use Rattle.faults.specs.Numbers.{outOfRange}
 use Rattle.value.specs.Value.{Datum, nil, bool, int, float, kindOf, payloadOf, Read, well, ill, ofPair, datums}
-use Rattle.value.specs.Ops.{is, fault}
+use Rattle.ops.specs.Ops.{is, fault}
 use Rattle.value.proofs.RoundTrip.{value-back}
 use Rattle.value.proofs.RoundTrip as Pair
-use Rattle.machine.specs.Effect.{size, held, ofRead}
+use Rattle.effect.specs.Effect.{size, held, ofRead}
 use Rattle.machine.specs.Step.{Next, go, put, stop, after, lent}
 use Rattle.machine.specs.Run.{Out, out, ran, runFrom, runOf}
 use Rattle.machine.specs.Datums.{valueAt, nextOf, End, end, valuesFrom}

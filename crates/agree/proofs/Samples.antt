@@ -11,9 +11,9 @@ use Rattle.table.specs.Table as Table
 use Rattle.table.specs.Tree as Tree
 use Rattle.insns.specs.Fields as Fields
 use Rattle.decode.specs.Decode as Decode
-use Rattle.decode.specs.Patch as Patch
+use Rattle.patch.specs.Patch as Patch
 use Rattle.value.specs.Value as Val
-use Rattle.value.specs.Ops as Ops
+use Rattle.ops.specs.Ops as Ops
 use Rattle.int64.specs.Order as Order
 use Rattle.int64.specs.Int as I
 use Rattle.float.specs.Binary64 as F
@@ -24,7 +24,7 @@ use Rattle.emit.specs.Fold as Fold
 use Rattle.emit.specs.Steps as Steps
 use Rattle.codegen.specs.Gen as Gen
 use Rattle.codegen.specs.Compile as Compile
-use Rattle.machine.specs.Effect as Effect
+use Rattle.effect.specs.Effect as Effect
 use Rattle.machine.specs.Step as Step
 use Rattle.machine.specs.Run as Run
 use Rattle.agree.specs.Claim.{Accepted, Lent, Ended}
@@ -32,7 +32,7 @@ use Rattle.agree.specs.Samples.{choice, nan, samples}
 use Rattle.agree.proofs.Theorem.{correct}
 
 pub samples-hold : map (λ (x : List ℕ × List ℕ). x .0) samples ≡ map (λ (x : List ℕ × List ℕ). x .1) samples
-unfolding Faults.fault Faults._or-else_ Table.tempBase Table.arity Table.kindFault Table.children Table.spanFault Table.limitFault Table.nodeFault Table.nodesFault Table.shapeFault Table.layoutFault Table.destFault Table.lastFault Table.checkOf Tree.kindOf Tree.build Tree.treeAt Tree.tree Fields.twos Fields.isRaw Fields.rawBits Fields.wordIf Decode.signed Decode.whole Decode.ifRaw Decode.decodeOf Patch.reachOf Patch.aimWord Patch.patchOf Patch.patchAll Val.ofPair Val.allWell Val.datums Ops.isNumber Ops.ofNumbers Ops.fromInt Ops.arithOf Ops.standing Ops.judged Ops.mixed Ops.compareNumbers Ops.compareOf Ops.notOf Ops.negate Order.holds I.inRange I.checked I.exact I.arith I.operate F.read F.halvings F.toNearest F.rounded F.order F.ofInt Eval.leafOf Eval.unaryOf Eval.cmpOf Eval.on Eval.both Eval.whether Eval.binaryOf Eval.evalOf Evaluate.localsFault Evaluate.unless Evaluate.evaluateOf State.allocD State.destD State.slotD State.storeD State.patchedD State.leapD Fold.bits Fold.runAt Fold.runFrom Fold.bitRun Fold.litOf Fold.shiftBy Fold.shiftedBy Fold.foldBy Steps.putD Steps.constTo Steps.constD Steps.leafD Steps.putTo Steps.moveTo Steps.leapTo Steps.turnD Gen.leafV Gen.oneV Gen.twoV Gen.binaryV Gen.intoD Gen.armsD Gen.ternaryV Gen.oneB Gen.pairB Gen.compareB Gen.gen Compile.rootD Compile.generated Compile.compileOf Effect.held Effect.both Effect.rawOf Effect.inverted Effect.compare Step.landOf Step.wordOf Step.stepOf Run.runFrom Run.runOf
+unfolding Faults.fault Faults._or-else_ Table.tempBase Table.arity Table.children Table.spanFault Table.nodeFault Table.nodesFault Table.shapeFault Table.layoutFault Table.destFault Table.lastFault Table.checkOf Tree.kindOf Tree.build Tree.treeAt Tree.tree Fields.twos Fields.isRaw Fields.rawBits Fields.wordIf Decode.signed Decode.whole Decode.ifRaw Decode.decodeOf Patch.reachOf Patch.aimWord Patch.patchOf Patch.patchAll Val.ofPair Val.allWell Val.datums Ops.isNumber Ops.ofNumbers Ops.fromInt Ops.arithOf Ops.standing Ops.judged Ops.mixed Ops.compareNumbers Ops.compareOf Ops.notOf Ops.negate Order.holds I.inRange I.checked I.exact I.arith I.operate F.read F.halvings F.toNearest F.rounded F.order F.ofInt Eval.leafOf Eval.unaryOf Eval.cmpOf Eval.on Eval.both Eval.whether Eval.binaryOf Eval.evalOf Evaluate.localsFault Evaluate.unless Evaluate.evaluateOf State.allocD State.destD State.slotD State.storeD State.patchedD State.leapD Fold.bits Fold.runAt Fold.runFrom Fold.bitRun Fold.litOf Fold.shiftBy Fold.shiftedBy Fold.foldBy Steps.putD Steps.constTo Steps.constD Steps.leafD Steps.putTo Steps.moveTo Steps.leapTo Steps.turnD Gen.leafV Gen.oneV Gen.twoV Gen.binaryV Gen.intoD Gen.armsD Gen.ternaryV Gen.oneB Gen.pairB Gen.compareB Gen.gen Compile.rootD Compile.generated Compile.compileOf Effect.held Effect.both Effect.rawOf Effect.inverted Effect.compare Step.landOf Step.wordOf Step.stepOf Run.runFrom Run.runOf
 samples-hold = refl
 
 -- ---- the claim's premises can be met: sample 3 with a NaN, run
@@ -49,7 +49,7 @@ made =
     }
 
 accepted : Accepted choice 2 0 None 2 made
-unfolding Faults.fault Faults._or-else_ Table.tempBase Table.arity Table.kindFault Table.children Table.spanFault Table.limitFault Table.nodeFault Table.nodesFault Table.shapeFault Table.layoutFault Table.destFault Table.lastFault Table.checkOf Tree.kindOf Tree.build Tree.treeAt Tree.tree Fields.twos Fields.isRaw Fields.rawBits Fields.wordIf Decode.signed Decode.whole Decode.ifRaw Decode.decodeOf Patch.reachOf Patch.aimWord Patch.patchOf Patch.patchAll State.allocD State.destD State.slotD State.storeD State.patchedD State.leapD Fold.bits Fold.runAt Fold.runFrom Fold.bitRun Fold.litOf Fold.shiftBy Fold.shiftedBy Fold.foldBy Steps.putD Steps.constTo Steps.constD Steps.leafD Steps.putTo Steps.moveTo Steps.leapTo Steps.turnD Gen.leafV Gen.oneV Gen.twoV Gen.binaryV Gen.intoD Gen.armsD Gen.ternaryV Gen.oneB Gen.pairB Gen.compareB Gen.gen Compile.rootD Compile.generated Compile.compileOf
+unfolding Faults.fault Faults._or-else_ Table.tempBase Table.arity Table.children Table.spanFault Table.nodeFault Table.nodesFault Table.shapeFault Table.layoutFault Table.destFault Table.lastFault Table.checkOf Tree.kindOf Tree.build Tree.treeAt Tree.tree Fields.twos Fields.isRaw Fields.rawBits Fields.wordIf Decode.signed Decode.whole Decode.ifRaw Decode.decodeOf Patch.reachOf Patch.aimWord Patch.patchOf Patch.patchAll State.allocD State.destD State.slotD State.storeD State.patchedD State.leapD Fold.bits Fold.runAt Fold.runFrom Fold.bitRun Fold.litOf Fold.shiftBy Fold.shiftedBy Fold.foldBy Steps.putD Steps.constTo Steps.constD Steps.leafD Steps.putTo Steps.moveTo Steps.leapTo Steps.turnD Gen.leafV Gen.oneV Gen.twoV Gen.binaryV Gen.intoD Gen.armsD Gen.ternaryV Gen.oneB Gen.pairB Gen.compareB Gen.gen Compile.rootD Compile.generated Compile.compileOf
 accepted = record { places = 8; cap = 8; slotCap = 8; is = refl }
 
 abbrev kinds : List ℕ
@@ -75,5 +75,5 @@ lent =
     }
 
 pub applied : Ended None 2 2 made kinds payloads (Val.int (pos 2)) (Run.runOf (made .words) [] [] 4 0 kinds payloads)
-unfolding Faults.fault Faults._or-else_ Table.tempBase Table.arity Table.kindFault Table.children Table.spanFault Table.limitFault Table.nodeFault Table.nodesFault Table.shapeFault Table.layoutFault Table.destFault Table.lastFault Table.checkOf Tree.kindOf Tree.build Tree.treeAt Tree.tree Val.ofPair Val.allWell Val.datums Ops.isNumber Ops.ofNumbers Ops.fromInt Ops.arithOf Ops.standing Ops.judged Ops.mixed Ops.compareNumbers Ops.compareOf Ops.notOf Order.holds I.inRange I.checked I.exact I.arith I.operate F.read F.halvings F.toNearest F.rounded F.order F.ofInt Eval.leafOf Eval.unaryOf Eval.cmpOf Eval.on Eval.both Eval.whether Eval.binaryOf Eval.evalOf Evaluate.localsFault Evaluate.unless Evaluate.evaluateOf
+unfolding Faults.fault Faults._or-else_ Table.tempBase Table.arity Table.children Table.spanFault Table.nodeFault Table.nodesFault Table.shapeFault Table.layoutFault Table.destFault Table.lastFault Table.checkOf Tree.kindOf Tree.build Tree.treeAt Tree.tree Val.ofPair Val.allWell Val.datums Ops.isNumber Ops.ofNumbers Ops.fromInt Ops.arithOf Ops.standing Ops.judged Ops.mixed Ops.compareNumbers Ops.compareOf Ops.notOf Order.holds I.inRange I.checked I.exact I.arith I.operate F.read F.halvings F.toNearest F.rounded F.order F.ofInt Eval.leafOf Eval.unaryOf Eval.cmpOf Eval.on Eval.both Eval.whether Eval.binaryOf Eval.evalOf Evaluate.localsFault Evaluate.unless Evaluate.evaluateOf
 applied = correct choice 2 0 None 2 made accepted kinds payloads [] [] 4 lent

@@ -8,7 +8,7 @@ use lib.IntN.{ℤ}
 use lib.Dec.{eqb}
 use Rattle.insns.specs.declared.op.Op.{Op}
 use Rattle.insns.specs.declared.op.Three.{Three}
-use Rattle.decode.specs.declared.patch.Branch.{Branch}
+use Rattle.patch.specs.declared.Branch.{Branch}
 use Rattle.value.specs.Value.{Datum}
 use Rattle.table.specs.Tree.{Tree, leaf, unary, binary, ternary, Leaf, nil, yep, nope, int, float, ref, Unary, minus, neg, Cmp, Binary, arith, cmp, and, or, size}
 use Rattle.emit.specs.declared.state.Dst.{Dst}

@@ -12,10 +12,10 @@ use borrow.Author.Tests.{eqb-true, lt-ltb}
 use Rattle.faults.specs.Numbers.{outOfRange}
 use Rattle.insns.specs.declared.op.Op.{Op}
 use Rattle.insns.specs.declared.op.Imm40.{Imm40}
-use Rattle.decode.specs.declared.patch.Branch.{Branch}
+use Rattle.patch.specs.declared.Branch.{Branch}
 use Rattle.value.specs.Value.{Datum, nil}
-use Rattle.value.specs.Ops.{Result, is, fault}
-use Rattle.machine.specs.Effect.{write, branch, effectOf, rawOf}
+use Rattle.ops.specs.Ops.{Result, is, fault}
+use Rattle.effect.specs.Effect.{write, branch, effectOf, rawOf}
 use Rattle.machine.specs.Step.{putOf, stop}
 use Rattle.machine.specs.Datums.{valueAt}
 use Rattle.emit.specs.declared.state.Dst.{Dst}

@@ -11,7 +11,7 @@ use Rattle.faults.specs.Limits.{maxRegisters}
 use Rattle.faults.specs.Numbers.{noRegister, noSlot, noRoom}
 use Rattle.insns.specs.declared.op.Op.{Op}
 use Rattle.insns.specs.Insns.{madeOf}
-use Rattle.decode.specs.Patch.{Patching, patchOf, patchAll}
+use Rattle.patch.specs.Patch.{Patching, patchOf, patchAll}
 use Rattle.value.specs.Value.{Datum}
 use Rattle.emit.specs.declared.state.Dst.{Dst}
 use Rattle.emit.specs.declared.state.Dst.the-variants.{Any, To}

@@ -18,10 +18,10 @@ use Rattle.table.specs.declared.Dest.{Dest}
 use Rattle.table.specs.declared.Dest.the-variants.{None, Reg}
 use Rattle.table.proofs.Whole as Table
 use Rattle.value.specs.Value.{Datum, nil, kindOf, payloadOf, ofPair, isWell, datumOf, datums, allWell}
-use Rattle.value.specs.Ops.{Result, is, fault}
+use Rattle.ops.specs.Ops.{Result, is, fault}
 use Rattle.eval.specs.Eval.{evalOf}
 use Rattle.eval.specs.Evaluate.{localsFault, unless, evaluateOf}
-use Rattle.machine.specs.Effect as M
+use Rattle.effect.specs.Effect as M
 use Rattle.machine.specs.Run.{Out, runOf}
 use Rattle.machine.specs.Datums.{valueAt}
 use Rattle.machine.specs.declared.run.Ran.{Ran}

@@ -19,9 +19,9 @@ use Rattle.int64.specs.declared.Cmp.{Cmp as ValueCmp}
 use Rattle.int64.specs.declared.Cmp.the-variants as VC
 use Rattle.value.specs.Value.{Datum}
 use Rattle.value.specs.Value as Val
-use Rattle.value.specs.Ops.{Result, is, fault, negate, isNumber, Standing, stands, apart, standing, judged, mixed, mirror as exchanged, compareNumbers, compareOthers, compareOf, same as sameDatum}
-use Rattle.machine.specs.Effect as M
-use Rattle.machine.specs.Effect.{effectOf, write, branch}
+use Rattle.ops.specs.Ops.{Result, is, fault, negate, isNumber, Standing, stands, apart, standing, judged, mixed, mirror as exchanged, compareNumbers, compareOthers, compareOf, same as sameDatum}
+use Rattle.effect.specs.Effect as M
+use Rattle.effect.specs.Effect.{effectOf, write, branch}
 use Rattle.table.specs.Tree.{Tree, leaf, unary, binary, ternary, Leaf, nil, yep, nope, int, float, ref, Unary, minus, neg, Arith, bitAnd, bitOr, bitXor, lshift, rshift, add, sub, mul, div, mod′, Cmp, eq, ne, lt, le, gt, ge, Binary, arith, cmp, and, or, RefBelow, RefsBelow}
 use Rattle.eval.specs.Eval as E
 use Rattle.eval.specs.Eval.{evalOf, leafOf}

@@ -8,11 +8,11 @@ use lib.ListN.{length, getD}
 use Rattle.faults.specs.Limits.{maxNodes}
 use Rattle.faults.specs.Numbers.{noRegister, noSlot, noRoom}
 use Rattle.value.specs.Value.{Datum, kindOf, payloadOf, allWell, datums}
-use Rattle.value.specs.Ops.{Result, is, fault}
+use Rattle.ops.specs.Ops.{Result, is, fault}
 use Rattle.table.specs.Table.{tempBase, checkOf}
 use Rattle.table.specs.declared.Dest.{Dest}
 use Rattle.table.specs.declared.Dest.the-variants.{None, Reg}
-use Rattle.machine.specs.Effect.{size}
+use Rattle.effect.specs.Effect.{size}
 use Rattle.eval.specs.Evaluate.{evaluateOf}
 use Rattle.machine.specs.Run.{Out, out, ran, runOf}
 use Rattle.machine.specs.declared.run.Ran.{Ran}

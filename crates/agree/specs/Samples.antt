@@ -5,7 +5,7 @@ use Prim.Native.Nat.{ℕ, _+_, _-_, _*_, _^_}
 use lib.ListN.{length, getD}
 use lib.IntN.{pos}
 use Rattle.value.specs.Value.{kindOf, payloadOf}
-use Rattle.value.specs.Ops.{Result, is, fault}
+use Rattle.ops.specs.Ops.{Result, is, fault}
 use Rattle.table.specs.Tree.{Tree, leaf, int, ref, binary, cmp, lt}
 use Rattle.table.specs.declared.Dest.the-variants.{None}
 use Rattle.insns.specs.declared.Made.{Made}
@@ -14,8 +14,8 @@ use Rattle.insns.specs.declared.op.Three.the-variants as Three
 use Rattle.insns.specs.declared.op.Slot.the-variants as Slot
 use Rattle.insns.specs.declared.op.Cmp.the-variants as Cmp
 use Rattle.insns.specs.Insns.{madeOf}
-use Rattle.decode.specs.declared.patch.Aimed.{Aimed}
-use Rattle.decode.specs.Patch.{aimWord}
+use Rattle.patch.specs.declared.Aimed.{Aimed}
+use Rattle.patch.specs.Patch.{aimWord}
 use Rattle.eval.specs.Evaluate.{evaluateOf}
 use Rattle.emit.specs.State.{Res, done, fail, State}
 use Rattle.codegen.specs.Gen.{gen}

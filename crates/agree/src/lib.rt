@@ -5,10 +5,10 @@ use eval::evaluate;
 use machine::run::Ran;
 use runner::run;
 use table::Dest;
-use value::ops::Answer;
+use ops::Answer;
 ghost use Prim.Native.Nat.{_<_, _^_};
 ghost use lib.ListN.{length};
-ghost use Rattle.value.specs.Ops.{resultOf};
+ghost use Rattle.ops.specs.Ops.{resultOf};
 ghost use Rattle.machine.specs.Run.{out};
 ghost use Rattle.agree.specs.Claim.{Promised, Whole, Wide};
 

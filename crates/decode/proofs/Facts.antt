@@ -1,4 +1,4 @@
--- Facts for the crates above: the operands of what decodes, the word of what fits, and the word of a branch with another displacement. Assumes nothing.
+-- Facts for the crates above: the operands of what decodes, and the word of what fits. Assumes nothing.
 use mathlib.Core.Path.{_≡_, refl, sym, ap, subst, _∙_}
 use mathlib.Core.Bool.{Bool, true, false}
 use mathlib.Core.List.{List, [], _∷_}
@@ -7,7 +7,6 @@ use native.Mathlib.Omega.{arith}
 use borrow.Author.Tests.{ltb-true}
 use lib.Dec.{ltb}
 use lib.IntN.{ℤ, pos, negsuc}
-use lib.ListN.{length, getD, set}
 use lib.Signed.{mag}
 use Rattle.insns.specs.Fields.{raw, pack, allFit, wordIf, pickMade, twos, isRaw, rawBits, pickNat}
 use Rattle.insns.specs.Insns.{opOf, formOf, fieldsOf, madeOf}
@@ -17,13 +16,7 @@ use Rattle.insns.specs.declared.op.Disp.{Disp}
 use Rattle.insns.specs.declared.op.Imm40.{Imm40}
 use Rattle.insns.specs.declared.op.Op.{Op}
 use Rattle.decode.specs.Decode.{decodeOf}
-use Rattle.decode.specs.Patch.{reachOf, branchOf, branchBy, aimedReach, aimedDecoded, aimedBranching, aimWord, patchOf}
 use Rattle.decode.specs.declared.Decoded.{Decoded}
-use Rattle.decode.specs.declared.patch.Branch.{Branch}
-use Rattle.decode.specs.declared.patch.Branching.{Branching}
-use Rattle.decode.specs.declared.patch.Aimed.{Aimed}
-use Rattle.decode.specs.declared.patch.Patched.{Patched}
-use Rattle.decode.proofs.Aim.{a-word}
 use Rattle.decode.proofs.RoundTrip.{head-fits, raw-fits, made-fits, made-decode}
 
 -- an instruction whose operands fit has a word
@@ -66,19 +59,3 @@ load-raw w dst imm e =
 
 pub ret-raw : (w : ℕ) (imm : Imm40) → decodeOf w ≡ Decoded.Is (Op.RetImm40 imm) → Raw (imm .raw)
 ret-raw w imm e = raw-of (imm .raw) (head-fits (2 ^ 40) (rawBits (imm .raw)) [] (decoded-fits w (Op.RetImm40 imm) e) .0)
-
--- a branch with any displacement is that branch
-pub branch-by : (b : Branch) (disp : Disp) → branchOf (branchBy b disp) ≡ Branching.Is b
-branch-by (Branch.If k val) disp = refl
-branch-by (Branch.Jump k a c) disp = refl
-branch-by (Branch.JumpImm k a imm) disp = refl
-branch-by Branch.Jmp disp = refl
-
--- the word of a branch, aimed: the same branch with the displacement from its position to the target, or too far
-pub aim-branch : (w at target : ℕ) (b : Branch) (disp : Disp) → decodeOf w ≡ Decoded.Is (branchBy b disp) → aimWord w at target ≡ aimedReach b (reachOf at target)
-unfolding aimWord
-aim-branch w at target b disp e = ap (λ (d : Decoded). aimedDecoded d (reachOf at target)) e ∙ ap (λ (x : Branching). aimedBranching x (reachOf at target)) (branch-by b disp)
-
--- and the words of a list, of which that one is changed
-pub patch-word : (ws : List ℕ) (at target w : ℕ) → at < length ws → aimWord (getD ws at 0) at target ≡ Aimed.To w → patchOf ws at target ≡ record { answer = Patched.Done; words = set ws at w }
-patch-word ws at target w h e = sym (a-word ws at target h (sym e) refl)

@@ -1,7 +1,6 @@
--- Laws of decoding and patching.
+-- Laws of decoding.
 pub mod Sign
 pub mod Table
-pub mod Aim
 pub mod RoundTrip
 pub mod Facts
 pub mod Samples

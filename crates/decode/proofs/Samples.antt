@@ -10,7 +10,6 @@ use Rattle.insns.specs.declared.op.Op.{Op}
 use Rattle.insns.specs.declared.op.Arith.{Arith}
 use Rattle.insns.specs.declared.op.Cmp.{Cmp}
 use Rattle.decode.specs.Decode.{decodeOf, signed, whole, ifRaw}
-use Rattle.decode.specs.Patch.{reachOf, aimWord, putAimed, patchedNumber}
 use Rattle.decode.specs.declared.Decoded.{Decoded}
 
 -- sample 1: the word of a + 5; sample 3: the four words of a < b ? 1 : 2; sample 5: the branch of the test 5 < a, before it is patched
@@ -34,21 +33,3 @@ samples-encode = refl
 pub samples-decode : map decodeOf words ≡ map Decoded.Is instructions
 unfolding instructions words decodeOf signed whole ifRaw isRaw
 samples-decode = refl
-
--- sample 9: the branch jlt 0, 1, which has a 24-bit field, from a position to a target, and the number that patching it gives
-pub record Aim : Type 0 where
-  pub at : ℕ
-  pub target : ℕ
-  pub number : ℕ
-
-pub limits : List Aim
-limits =
-    record { at = 0; target = 8388608; number = 0 } ∷
-    record { at = 0; target = 8388609; number = 8 } ∷
-    record { at = 8388607; target = 0; number = 0 } ∷
-    record { at = 8388608; target = 0; number = 8 } ∷
-    []
-
-pub samples-patch : map (λ (a : Aim). patchedNumber (putAimed (aimWord 0x0100002F (a .at) (a .target)) [] (a .at) .answer)) limits ≡ map (λ (a : Aim). a .number) limits
-unfolding limits aimWord reachOf decodeOf signed whole ifRaw isRaw wordIf twos rawBits
-samples-patch = refl

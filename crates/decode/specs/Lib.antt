@@ -1,3 +1,2 @@
--- What the contracts of decoding and patching cite.
+-- What the contracts of decoding cite.
 pub mod Decode
-pub mod Patch

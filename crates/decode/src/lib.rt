@@ -1,4 +1,4 @@
-// From a word to its instruction, and aiming a branch word.
+// From a word to its instruction.
 use crate::cut::bit_and_mask_of;
 use crate::cut::by_id_of;
 use crate::cut::call_host_of;
@@ -28,7 +28,6 @@ ghost use Rattle.decode.specs.Decode.{decodeOf};
 
 pub mod cut;
 pub mod form;
-pub mod patch;
 
 // What a word decodes to; Bad is number 10.
 pub enum Decoded {

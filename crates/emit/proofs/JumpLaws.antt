@@ -15,8 +15,8 @@ use Rattle.insns.specs.declared.Made.{Made}
 use Rattle.insns.specs.declared.op.Op.{Op}
 use Rattle.insns.specs.declared.op.Sense.the-variants as Sense
 use Rattle.insns.specs.Insns.{madeOf}
-use Rattle.decode.specs.declared.patch.Patched.{Patched}
-use Rattle.decode.specs.Patch.{Patching, patchOf, patchAll, patchedNumber}
+use Rattle.patch.specs.declared.Patched.{Patched}
+use Rattle.patch.specs.Patch.{Patching, patchOf, patchAll, patchedNumber}
 use Rattle.emit.specs.declared.state.St.{St}
 use Rattle.emit.specs.declared.state.Ans.{Ans}
 use Rattle.emit.specs.declared.state.Ans.the-variants.{Got, No}

@@ -12,8 +12,8 @@ use mir.Val.{toZ}
 use Rattle.faults.specs.Limits.{maxRegisters}
 use Rattle.table.specs.Table.{nodeCount, kindAt, payloadAt, Node, Child}
 use Rattle.table.specs.Tree.{tree}
-use Rattle.decode.specs.declared.patch.Patched.{Patched}
-use Rattle.decode.specs.Patch.{patchedNumber}
+use Rattle.patch.specs.declared.Patched.{Patched}
+use Rattle.patch.specs.Patch.{patchedNumber}
 use Rattle.value.specs.Value.{Datum}
 use Rattle.value.specs.Value as Val
 use Rattle.emit.specs.declared.state.St.{St}

@@ -12,7 +12,7 @@ use Rattle.insns.specs.declared.Made.{Made}
 use Rattle.insns.specs.declared.Made.the-variants.{Fits, Refused}
 use Rattle.insns.specs.declared.op.Op.{Op}
 use Rattle.insns.specs.Insns.{madeOf}
-use Rattle.decode.specs.Patch.{patchOf, patchAll, patchedNumber, Patching}
+use Rattle.patch.specs.Patch.{patchOf, patchAll, patchedNumber, Patching}
 use Rattle.emit.specs.declared.state.Dst.{Dst}
 use Rattle.emit.specs.declared.state.Dst.the-variants.{Any, To}
 

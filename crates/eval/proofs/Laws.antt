@@ -18,14 +18,14 @@ use Rattle.table.specs.Tree.{Leaf, Kind, leafKind, unaryKind, binaryKind, terna
 use Rattle.table.proofs.Arities.{at-kind}
 use Rattle.value.specs.Value.{Datum, nil, bool, int, float, meaning, Read, readOf, ofPair, datums}
 use Rattle.value.proofs.PairLaws.{well-at, well-is, datum-at}
-use Rattle.value.specs.Ops as Ops
-use Rattle.value.specs.Ops.{Result, is, fault, resultOf}
+use Rattle.ops.specs.Ops as Ops
+use Rattle.ops.specs.Ops.{Result, is, fault, resultOf}
 use Rattle.value.specs.declared.value.Lent.{Lent}
 use Rattle.value.specs.declared.value.Lent.the-variants.{Well, Ill}
 use Rattle.value.specs.declared.value.Value.{Value}
 use Rattle.value.specs.declared.value.Value.the-variants as C
-use Rattle.value.specs.declared.ops.Answer.{Answer}
-use Rattle.value.specs.declared.ops.Answer.the-variants as A
+use Rattle.ops.specs.declared.Answer.{Answer}
+use Rattle.ops.specs.declared.Answer.the-variants as A
 use Rattle.eval.specs.Eval.{leafOf, on, both, whether, test}
 use Rattle.eval.specs.Steps.{Lends, Ruled, pairOf, leaves, truthOf, ruleOf, firstOf, afterOf, chosenOf, nextOf, aloneOf, joinedOf}
 use Rattle.eval.specs.declared.Next.{Next}

@@ -10,8 +10,8 @@ use Rattle.int64.specs.Int as I
 use Rattle.table.specs.Tree as T
 use Rattle.table.specs.Tree.{Tree, leaf, unary, binary, ternary}
 use Rattle.value.specs.Value.{bool, ofPair, allWell}
-use Rattle.value.specs.Ops as Ops
-use Rattle.value.specs.Ops.{is, fault}
+use Rattle.ops.specs.Ops as Ops
+use Rattle.ops.specs.Ops.{is, fault}
 use Rattle.eval.specs.Eval.{leafOf, unaryOf, arithOf, on, both, whether, test, binaryOf, evalOf}
 use Rattle.eval.specs.Evaluate.{localsFault}
 

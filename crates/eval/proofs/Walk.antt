@@ -14,8 +14,8 @@ use Rattle.table.proofs.Arities.{leaf-le, unary-code, binary-code, ternary-code
 use Rattle.table.proofs.Nodes.{ok}
 use Rattle.table.proofs.Trees.{UnaryAt, BinaryAt, TernaryAt, View, is-leaf, is-unary, is-binary, is-ternary, view, leaf-in}
 use Rattle.value.specs.Value.{Datum, bool, datums}
-use Rattle.value.specs.Ops as Ops
-use Rattle.value.specs.Ops.{Result, is, fault}
+use Rattle.ops.specs.Ops as Ops
+use Rattle.ops.specs.Ops.{Result, is, fault}
 use Rattle.eval.specs.Eval.{leafOf, unaryOf, arithOf, cmpOf, on, both, whether, test, binaryOf, evalOf}
 use Rattle.eval.specs.Steps.{Ruled, leaves, truthOf, ruleOf, firstOf, afterOf, chosenOf, nextOf, aloneOf, joinedOf}
 use Rattle.eval.specs.declared.Next.{Next}

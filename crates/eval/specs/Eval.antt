@@ -8,7 +8,7 @@ use Rattle.faults.specs.Numbers.{wrongKind}
 use Rattle.table.specs.Tree as T
 use Rattle.table.specs.Tree.{Leaf, Unary, Arith, Cmp, Binary, Tree}
 use Rattle.value.specs.Value.{Datum, nil, bool, int, float}
-use Rattle.value.specs.Ops.{Result, is, fault, minusOf, notOf, andOf, orOf, xorOf, shlOf, shrOf, addOf, subOf, mulOf, divOf, remOf, eqOf, neOf, ltOf, leOf}
+use Rattle.ops.specs.Ops.{Result, is, fault, minusOf, notOf, andOf, orOf, xorOf, shlOf, shrOf, addOf, subOf, mulOf, divOf, remOf, eqOf, neOf, ltOf, leOf}
 
 -- ---- a literal is its value, a Ref the value of its local
 

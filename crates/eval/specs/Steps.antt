@@ -11,8 +11,8 @@ use mir.Val.{toZ}
 use Rattle.faults.specs.Numbers.{wrongKind, illFormed}
 use Rattle.table.specs.Table.{kindAt, child1, child2, child3, Node}
 use Rattle.value.specs.Value.{Datum, nil, bool, int, float, Read, well, ill, allWell}
-use Rattle.value.specs.Ops as Ops
-use Rattle.value.specs.Ops.{Result, is, fault}
+use Rattle.ops.specs.Ops as Ops
+use Rattle.ops.specs.Ops.{Result, is, fault}
 use Rattle.eval.specs.Eval.{on, both, test}
 use Rattle.eval.specs.declared.Truth.{Truth}
 use Rattle.eval.specs.declared.Truth.the-variants.{Yes, No, Wrong}

@@ -6,19 +6,19 @@ ghost use Rattle.table.specs.Table.{Node, ChildIs};
 ghost use Rattle.table.specs.Tree.{tree};
 ghost use Rattle.value.specs.Value as Vs;
 ghost use Rattle.value.specs.Value.{datums};
-ghost use Rattle.value.specs.Ops as Ops;
-ghost use Rattle.value.specs.Ops.{resultOf};
+ghost use Rattle.ops.specs.Ops as Ops;
+ghost use Rattle.ops.specs.Ops.{resultOf};
 ghost use Rattle.eval.specs.Eval.{both, test, evalOf};
 ghost use Rattle.eval.specs.Evaluate.{evaluateOf};
 ghost use Rattle.eval.specs.Steps.{Lends, Ruled, pairOf, leaves, truthOf, ruleOf, firstOf, chosenOf, afterOf, nextOf, aloneOf, joinedOf};
 ghost use Rattle.eval.specs.declared.Rule.the-variants.{Unary};
+use ops::Answer;
 use table::Dest;
 use table::child_1;
 use table::child_2;
 use table::child_3;
 use table::kind_at;
 use table::payload_at;
-use value::ops::Answer;
 use value::value::Lent;
 use value::value::Value;
 
@@ -89,9 +89,9 @@ fn unary(k: u64, a: Answer) -> Answer
         return a;
     };
     if k == table::MINUS {
-        return value::binary::binary(table::MUL, x, Value::Int(-1));
+        return ops::binary::binary(table::MUL, x, Value::Int(-1));
     }
-    value::ops::not(x)
+    ops::not(x)
 }
 
 // An operator on two answers: the first fault counts.
@@ -104,7 +104,7 @@ fn operate(k: u64, a: Answer, b: Answer) -> Answer
     let Answer::Is(y) = b else {
         return b;
     };
-    value::binary::binary(k, x, y)
+    ops::binary::binary(k, x, y)
 }
 
 // A value as a test: only a Bool is one.

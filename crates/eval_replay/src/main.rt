@@ -1,7 +1,7 @@
 // Replays node tables with their locals, and writes what the check and the evaluator answer; tools/oracle/README.md has the layout.
 ghost use Prim.Native.Nat.{_≤_};
+use ops::Answer;
 use table::Dest;
-use value::ops::Answer;
 
 // Room for the largest record.
 const TABLE_WORDS: usize = 16388;

@@ -11,14 +11,15 @@ use lib.Seq.{getD-set-same, getD-set-other}
 use borrow.Author.Tests.{lt-ltb, le-ltb, ltb-true, ltb-false, eqb-true, eqb-false}
 use Rattle.decode.specs.Decode.{decodeOf}
 use Rattle.value.specs.Value.{Datum, nil, kindOf, payloadOf, well, ofPair}
-use Rattle.value.specs.Ops.{Result, is, fault}
+use Rattle.ops.specs.Ops.{Result, is, fault}
 use Rattle.value.proofs.RoundTrip.{Holds, pair-back}
-use Rattle.machine.specs.Effect.{Effect, size, held, ofRead}
+use Rattle.effect.specs.Effect.{Effect, size, held, ofRead}
 use Rattle.machine.specs.Step.{Next, go, put, stop, settleOf, decodedOf, wordOf, After, after, lent, stepOf}
 use Rattle.machine.specs.Run.{Out, out, ran, runFrom}
 use Rattle.machine.specs.Datums.{valueAt, nextOf, End, end, valuesFrom}
 use Rattle.machine.specs.declared.step.Stepped.{Stepped}
-use Rattle.value.proofs.Closed.{Held}
+use Rattle.ops.proofs.Closed.{Held}
+use Rattle.machine.proofs.RunFacts.{step-then-run, step-then-stop}
 use Rattle.machine.proofs.Written.{Put, fine-word, settled}
 
 -- two lists lend these values, and each has a lent form that reads back as itself
@@ -93,19 +94,25 @@ either : (b : Bool) {x x′ : Out} {y y′ : End} → Same x y → Same x′ y�
 either true h k = h
 either false h k = k
 
-module _ (ws sks sps : List ℕ) (ss : List Datum) (n s at : ℕ) {ks ps : List ℕ} {rs : List Datum} (l : Lends ks ps rs)
+module _ (ws sks sps : List ℕ) (ss : List Datum) (m : Lends sks sps ss) (n s at : ℕ) {ks ps : List ℕ} {rs : List Datum} (l : Lends ks ps rs)
     (again : (p : ℕ) (ks ps : List ℕ) (rs : List Datum) → Lends ks ps rs → Same (runFrom ws sks sps n (suc s) p ks ps) (valuesFrom ws ss n (suc s) p rs)) where
-  turn : (x : Next) → Put (length rs) x → Same
-      (elim (lent ks ps x) [ after r ks' ps' ↦ elim r [ Stepped.Moved p ↦ runFrom ws sks sps n (suc s) p ks' ps' | Stepped.Stopped e ↦ out (ran e s at) ks' ps' ] ])
-      (elim x [ go p ↦ valuesFrom ws ss n (suc s) p rs | put p d v ↦ valuesFrom ws ss n (suc s) p (set rs d v) | stop e ↦ end (ran e s at) rs ])
-  turn (go p) h = again p ks ps rs l
-  turn (put p d v) h = again p (set ks d (kindOf v)) (set ps d (payloadOf v)) (set rs d v) (lends-set l d v (h .0) (h .1))
-  turn (stop e) h = record { same = (refl, l) }
+  stepped : {x : Next} → nextOf ws ss at rs ≡ x → stepOf ws sks sps at ks ps ≡ lent ks ps x
+  stepped e = same-step l m ws at ∙ ap (lent ks ps) e
+
+  turn : at < length ws → (x : Next) → nextOf ws ss at rs ≡ x → Put (length rs) x → Same (runFrom ws sks sps (suc n) s at ks ps) (valuesFrom ws ss (suc n) s at rs)
+  unfolding valuesFrom
+  turn h (go p) e k = rw (step-then-run ws sks sps ks ps n s at h (stepped e), lt-ltb at (length ws) h, e) (again p ks ps rs l)
+  turn h (put p d v) e k =
+      rw (step-then-run ws sks sps ks ps n s at h (stepped e), lt-ltb at (length ws) h, e)
+      (again p (set ks d (kindOf v)) (set ps d (payloadOf v)) (set rs d v) (lends-set l d v (k .0) (k .1)))
+  turn h (stop f) e k = rw (step-then-stop ws sks sps ks ps n s at h (stepped e), lt-ltb at (length ws) h, e) (record { same = (refl, l) })
+
+  goes : (b : Bool) → ltb at (length ws) ≡ b → Same (runFrom ws sks sps (suc n) s at ks ps) (valuesFrom ws ss (suc n) s at rs)
+  unfolding runFrom valuesFrom
+  goes true e = turn (ltb-true at (length ws) e) (nextOf ws ss at rs) refl (same-put l m ws at)
+  goes false e = rw e (record { same = (refl, l) })
 
 pub lent-run : (ws sks sps : List ℕ) (ss : List Datum) → Lends sks sps ss → (n s at : ℕ) {ks ps : List ℕ} {rs : List Datum} → Lends ks ps rs → Same (runFrom ws sks sps n s at ks ps) (valuesFrom ws ss n s at rs)
 unfolding runFrom valuesFrom
 lent-run ws sks sps ss m zero s at l = either (ltb at (length ws)) (record { same = (refl, l) }) (record { same = (refl, l) })
-lent-run ws sks sps ss m (suc n) s at {ks} {ps} {rs} l =
-    either (ltb at (length ws))
-    (rw (same-step l m ws at) (turn ws sks sps ss n s at l (λ p ks ps rs l′. lent-run ws sks sps ss m n (suc s) p l′) (nextOf ws ss at rs) (same-put l m ws at)))
-    (record { same = (refl, l) })
+lent-run ws sks sps ss m (suc n) s at l = goes ws sks sps ss m n s at l (λ p ks ps rs l′. lent-run ws sks sps ss m n (suc s) p l′) (ltb at (length ws)) refl

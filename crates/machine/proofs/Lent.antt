@@ -12,13 +12,13 @@ use borrow.Author.Tests.{lt-ltb, le-ltb, ltb-true, ltb-false}
 use Rattle.faults.specs.Numbers.{outOfRange}
 use Rattle.int64.proofs.Laws.{never}
 use Rattle.value.specs.Value.{Datum, nil, Read, well, ill, ofPair, isWell, allWell, datumOf, datums}
-use Rattle.value.specs.Ops.{Result, is, fault}
+use Rattle.ops.specs.Ops.{Result, is, fault}
 use Rattle.value.proofs.PairLaws.{well-at, datums-length, datum-at}
 use Rattle.value.proofs.RoundTrip.{Holds}
-use Rattle.machine.specs.Effect.{size, held, ofRead}
+use Rattle.effect.specs.Effect.{size, held, ofRead}
 use Rattle.machine.specs.Datums.{valueAt, valuesFrom}
 use Rattle.machine.specs.Run.{runOf}
-use Rattle.value.proofs.Closed.{Held}
+use Rattle.ops.proofs.Closed.{Held}
 use Rattle.machine.proofs.Lends.{Lends, Same, lent-run}
 
 reads-well : (x : Read) → isWell x ≡ true → ofRead x ≡ is (datumOf x)

@@ -12,13 +12,14 @@ use lib.Seq.{getD-set-other}
 use borrow.Author.Tests.{lt-ltb, ltb-true}
 use Rattle.faults.specs.Numbers.{outOfRange}
 use Rattle.value.specs.Value.{Datum, nil, bool, int, float, kindOf, payloadOf}
-use Rattle.value.specs.Ops.{Result, is, fault}
+use Rattle.ops.specs.Ops.{Result, is, fault}
 use Rattle.decode.specs.Decode.{decodeOf}
-use Rattle.machine.specs.Effect.{Effect, write, branch, next, halt, size, held}
+use Rattle.effect.specs.Effect.{Effect, write, branch, next, halt, size, held}
 use Rattle.machine.specs.Step.{Next, go, put, stop, landAt, landOf, branchOf, putOf, settleOf, decodedOf, wordOf, After, after, lent, stepOf}
 use Rattle.machine.specs.Run.{Out, out, ran, runFrom, runOf}
 use Rattle.machine.specs.declared.step.Stepped.{Stepped}
 use Rattle.machine.specs.declared.run.Ran.{Ran}
+use Rattle.machine.proofs.StepLaws.{stop-keeps}
 
 -- ---- one outcome only
 
@@ -32,9 +33,10 @@ module _ (ws sks sps ks ps : List ℕ) (n s at : ℕ) (h : at < length ws) {ks�
   unfolding runFrom
   step-then-run e = rw (lt-ltb at (length ws) h, e)
 
-  pub step-then-stop : {e : ℕ} → stepOf ws sks sps at ks ps ≡ after (Stepped.Stopped e) ks′ ps′ → runFrom ws sks sps (suc n) s at ks ps ≡ out (ran e s at) ks′ ps′
+  -- a stopping step is not counted and writes nothing
+  pub step-then-stop : {e : ℕ} → stepOf ws sks sps at ks ps ≡ after (Stepped.Stopped e) ks′ ps′ → runFrom ws sks sps (suc n) s at ks ps ≡ out (ran e s at) ks ps
   unfolding runFrom
-  step-then-stop e = rw (lt-ltb at (length ws) h, e)
+  step-then-stop {e} q = let k = stop-keeps ws sks sps ks ps at e q in rw (lt-ltb at (length ws) h, q, k .0, k .1)
 
 -- ---- a register that no word writes
 

@@ -14,20 +14,20 @@ use mir.Val.{SFits, toZ, ofZ}
 use mir.Facts.{toZ-ofZ}
 use borrow.Author.Tests.{lt-ltb, le-ltb, le-leb, lt-leb, ltb-true}
 use Rattle.faults.specs.Numbers.{undecoded, outOfRange}
-use Rattle.machine.proofs.EffectLaws.{widens, widened}
+use Rattle.effect.proofs.EffectLaws.{widens, widened}
 use Rattle.decode.specs.Decode.{decodeOf}
 use Rattle.decode.specs.declared.Decoded.{Decoded}
 use Rattle.insns.specs.declared.op.Disp.{Disp}
 use Rattle.insns.specs.declared.op.Op.{Op}
 use Rattle.value.specs.Value.{nil, bool, int, float, meaning, kindOf, payloadOf}
 use Rattle.value.specs.declared.value.Value.the-variants as C
-use Rattle.value.specs.Ops.{Result, is, fault, resultOf}
+use Rattle.ops.specs.Ops.{Result, is, fault, resultOf}
 use Rattle.value.specs.declared.value.Value.{Value}
-use Rattle.value.specs.declared.ops.Answer.{Answer}
-use Rattle.value.specs.declared.ops.Answer.the-variants as A
-use Rattle.machine.specs.Effect.{Effect, halt, asked, size, held, effectOf}
-use Rattle.machine.specs.declared.effect.Effect as E
-use Rattle.machine.specs.declared.effect.Effect.the-variants as Fx
+use Rattle.ops.specs.declared.Answer.{Answer}
+use Rattle.ops.specs.declared.Answer.the-variants as A
+use Rattle.effect.specs.Effect.{Effect, halt, asked, size, held, effectOf}
+use Rattle.effect.specs.declared.Effect as E
+use Rattle.effect.specs.declared.Effect.the-variants as Fx
 use Rattle.machine.specs.Step.{Next, go, put, stop, landAt, landOf, toldOf, putOf, branchOf, writeOf, settleOf, decodedOf, wordOf, After, after, lent, stepOf}
 use Rattle.machine.specs.declared.step.Stepped.{Stepped}
 

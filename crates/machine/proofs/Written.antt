@@ -31,11 +31,11 @@ use Rattle.decode.specs.declared.Decoded.{Decoded}
 use Rattle.decode.specs.Decode.{decodeOf}
 use Rattle.decode.proofs.Facts.{load-raw}
 use Rattle.value.specs.Value.{Datum, nil, bool, int, float}
-use Rattle.value.specs.Ops.{Result, is, fault, fromInt, arithOf, wholeOf}
+use Rattle.ops.specs.Ops.{Result, is, fault, fromInt, arithOf, wholeOf}
 use Rattle.value.proofs.RoundTrip.{Holds}
-use Rattle.machine.specs.Effect.{Effect, write, branch, next, halt, both, literal, mask, rawOf, inverted, threeKind, arithKind, shiftKind, bareOf, twoOf, slotOf, threeOf, effectOf}
+use Rattle.effect.specs.Effect.{Effect, write, branch, next, halt, both, literal, mask, rawOf, inverted, threeKind, arithKind, shiftKind, bareOf, twoOf, slotOf, threeOf, effectOf}
 use Rattle.machine.specs.Step.{Next, go, put, stop, landAt, landOf, branchOf, putOf, settleOf, decodedOf}
-use Rattle.value.proofs.Closed.{Held, picks, exact, as-floats, negates, binaries}
+use Rattle.ops.proofs.Closed.{Held, picks, exact, as-floats, negates, binaries}
 
 -- ---- an effect's answer
 

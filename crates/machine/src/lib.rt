@@ -1,4 +1,3 @@
-// The machine: what one instruction asks for (`effect`), one step (`step`), and what a run reports (`run`).
-pub mod effect;
+// The machine: one step (`step`), and what a run reports (`run`). What one instruction asks for stands in the crate `effect`.
 pub mod run;
 pub mod step;

@@ -1,12 +1,12 @@
 // One step: the word at a position is decoded, and its effect carried out.
-use crate::effect::Effect;
-use crate::effect::effect_of;
-use crate::effect::room;
 use decode::Decoded;
 use decode::decode;
+use effect::Effect;
+use effect::effect_of;
+use effect::room;
 use insns::fields::magnitude;
 use insns::op::Disp;
-use value::ops::Answer;
+use ops::Answer;
 use value::value::Value;
 use value::value::kind_of;
 use value::value::payload_of;
@@ -14,8 +14,8 @@ ghost use mathlib.Core.Path.{_≡_};
 ghost use Prim.Native.Nat.{_<_};
 ghost use lib.ListN.{length};
 ghost use Rattle.value.specs.Value.{meaning};
-ghost use Rattle.value.specs.Ops.{resultOf};
-ghost use Rattle.machine.specs.Effect.{asked, size};
+ghost use Rattle.ops.specs.Ops.{resultOf};
+ghost use Rattle.effect.specs.Effect.{asked, size};
 ghost use Rattle.machine.specs.Step as St;
 ghost use Rattle.machine.specs.Step.{after, lent};
 

@@ -16,7 +16,7 @@ use Rattle.faults.specs.Numbers.{badShape, noRoom}
 use Rattle.faults.proofs.Faults.{none-both, failed, pass, stop}
 use Rattle.table.specs.Table.{checkOf}
 use Rattle.table.specs.declared.Dest.{Dest}
-use Rattle.value.specs.Ops.{Result, fault as faulted}
+use Rattle.ops.specs.Ops.{Result, fault as faulted}
 use Rattle.eval.specs.Evaluate.{unless, evaluateOf}
 use Rattle.records.specs.Records.{roomFault}
 use Rattle.records.specs.Copy.{none, orNone, copiedOf, put, filled, checkFront, evaluateFront}

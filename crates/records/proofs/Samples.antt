@@ -4,7 +4,7 @@ use mathlib.Core.List.{List, [], _∷_}
 use Prim.Native.Nat.{ℕ}
 use Rattle.faults.specs.Faults.{fault, _or-else_}
 use Rattle.faults.specs.Numbers.{badShape, notLocal, noRoom}
-use Rattle.table.specs.Table.{arity, kindFault, children, spanFault, limitFault, nodeFault, nodesFault, shapeFault, layoutFault, destFault, lastFault, checkOf}
+use Rattle.table.specs.Table.{arity, children, spanFault, nodeFault, nodesFault, shapeFault, layoutFault, destFault, lastFault, checkOf}
 use Rattle.table.specs.declared.Dest.the-variants.{None, Reg}
 use Rattle.records.specs.Records.{flat, roomFault, holding, flattened, checkNodes}
 use Rattle.records.specs.declared.Node.{Node}
@@ -18,7 +18,7 @@ sum = node 5 0 0 1 ∷ node 3 5 1 1 ∷ node 13 0 0 2 ∷ []
 
 -- with room for its twelve words it has the word table's number, with less 7; no record at all is 1
 numbers : (checkNodes sum 12 1 0 None ≡ 0) × (checkNodes sum 12 1 0 (Reg 1) ≡ notLocal) × (checkNodes sum 11 1 0 None ≡ noRoom) × (checkNodes [] 0 1 0 None ≡ badShape)
-unfolding sum checkNodes flat roomFault checkOf shapeFault layoutFault destFault nodesFault nodeFault kindFault spanFault limitFault children arity lastFault fault _or-else_
+unfolding sum checkNodes flat roomFault checkOf shapeFault layoutFault destFault nodesFault nodeFault spanFault children arity lastFault fault _or-else_
 numbers = (refl, refl, refl, refl)
 
 -- the words lent: the records' words and what stood after them, or all as it was

@@ -8,7 +8,7 @@ use lib.ListN.{length, getD, set, take}
 use Rattle.faults.specs.Faults.{_or-else_}
 use Rattle.table.specs.Table.{checkOf}
 use Rattle.table.specs.declared.Dest.{Dest}
-use Rattle.value.specs.Ops.{Result}
+use Rattle.ops.specs.Ops.{Result}
 use Rattle.eval.specs.Evaluate.{unless, evaluateOf}
 use Rattle.records.specs.Records.{roomFault}
 use Rattle.records.specs.declared.Node.{Node}

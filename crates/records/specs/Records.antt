@@ -9,7 +9,7 @@ use Rattle.faults.specs.Limits.{maxNodes}
 use Rattle.faults.specs.Numbers.{badShape, noRoom}
 use Rattle.table.specs.Table.{checkOf}
 use Rattle.table.specs.declared.Dest.{Dest}
-use Rattle.value.specs.Ops.{Result}
+use Rattle.ops.specs.Ops.{Result}
 use Rattle.eval.specs.Evaluate.{unless, evaluateOf}
 use Rattle.records.specs.declared.Node.{Node}
 

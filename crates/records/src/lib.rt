@@ -2,11 +2,11 @@
 // routines do the rest, with the same answers. Records that are too many, or too many for the words lent, are refused before a word is written.
 ghost use mathlib.Core.Path.{_≡_};
 ghost use lib.ListN.{length};
-ghost use Rattle.value.specs.Ops.{resultOf};
+ghost use Rattle.ops.specs.Ops.{resultOf};
 ghost use Rattle.records.specs.Records.{roomFault, flattened, checkNodes, evaluateNodes};
 ghost use Rattle.records.specs.Copy.{copiedOf, put, checkFront, evaluateFront};
+use ops::Answer;
 use table::Dest;
-use value::ops::Answer;
 
 // A node of a table: the four words of document 01, by name.
 pub struct Node {

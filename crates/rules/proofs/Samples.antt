@@ -11,7 +11,7 @@ use Rattle.emit.specs.declared.state.Dst.the-variants.{Any}
 use Rattle.emit.specs.State.{Res, done, fail, State, bind, allocD, destD, slotD, storeD, patchedD, leapD}
 use Rattle.emit.specs.Fold.{bits, runAt, runFrom, bitRun, litOf, shiftBy, shiftedBy, foldBy}
 use Rattle.emit.specs.Steps.{leafD, putD, putTo, leapTo, moveTo, junctionTo, boolD, trueD, turnD, constD, constTo}
-use Rattle.decode.specs.Patch.{patchOf, patchAll, aimWord, reachOf}
+use Rattle.patch.specs.Patch.{patchOf, patchAll, aimWord, reachOf}
 use Rattle.rules.specs.Gen.{gen, leafV, oneV, twoV, binaryV, intoD, condV, armsD, ternaryV, oneB, pairB, compareB, junctionB}
 use Rattle.insns.specs.declared.op.Op.{Op}
 use Rattle.insns.specs.declared.op.Cmp.the-variants as Jump

@@ -65,7 +65,7 @@ fn next(
     Stepped::Moved(p)
 }
 
-// The steps one after the other.
+// The steps one after the other. A stopping step is not counted.
 fn run_from(
     words: &[u64],
     start: usize,
@@ -89,6 +89,8 @@ fn run_from(
                 position: at,
             };
         }
+        let before = steps;
+        steps += 1;
         match next(
             words,
             at,
@@ -101,12 +103,11 @@ fn run_from(
         ) {
             Stepped::Moved(p) => {
                 at = p;
-                steps += 1;
             }
             Stepped::Stopped(n) => {
                 return Ran {
                     number: n,
-                    steps: steps,
+                    steps: before,
                     position: at,
                 };
             }

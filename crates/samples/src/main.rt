@@ -1,6 +1,5 @@
 // Words of the worked examples, constructed, decoded and patched, and what is refused.
 use decode::Decoded;
-use decode::patch::Patched;
 use insns::Insn;
 use insns::Made;
 use insns::encode::arith_op;
@@ -8,6 +7,7 @@ use insns::fields::magnitude;
 use insns::op::Disp;
 use insns::op::Imm16;
 use insns::op::Op;
+use patch::Patched;
 
 fn say(text: &[u8]) {
     let _ = io::write_all(1, text);
@@ -117,7 +117,7 @@ fn say_patched(p: Patched, w: u64) {
 
 fn patched(w: u64, target: u64) {
     let mut store = [w];
-    let p = decode::patch::patch(&mut store, 0, target);
+    let p = patch::patch(&mut store, 0, target);
     say_patched(p, store[0]);
 }
 

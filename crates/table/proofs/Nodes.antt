@@ -73,7 +73,7 @@ spans-ok (Between e g) f d h =
     (cc, omega arith)
 
 pub node-ok : (ws : List ℕ) (base i : ℕ) → nodeFault ws base i ≡ 0 → NodeOk ws base i
-unfolding nodeFault kindFault limitFault
+unfolding nodeFault
 node-ok ws base i h =
     let p = none-both _ _ h in
     let q = none-both _ _ (p .1) in
@@ -290,7 +290,7 @@ and-raise false p base b h e = refl
 and-raise true p base b h e = let q = leb-false base p e in lt-leb b p (omega arith)
 
 node-raise : (ws : List ℕ) (base b i : ℕ) → base ≤ b → nodeFault ws base i ≡ 0 → nodeFault ws b i ≡ 0
-unfolding nodeFault limitFault fault
+unfolding nodeFault fault
 node-raise ws base b i h e =
     let p = none-both _ _ e in
     let q = none-both _ _ (p .1) in

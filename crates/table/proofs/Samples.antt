@@ -4,7 +4,7 @@ use mathlib.Core.List.{List, [], _∷_}
 use Prim.Native.Nat.{ℕ}
 use lib.IntN.{pos}
 use Rattle.faults.specs.Faults.{fault, _or-else_}
-use Rattle.table.specs.Table.{arity, kindFault, children, spanFault, limitFault, nodeFault, nodesFault, shapeFault, layoutFault, destFault, lastFault, checkOf}
+use Rattle.table.specs.Table.{arity, children, spanFault, nodeFault, nodesFault, shapeFault, layoutFault, destFault, lastFault, checkOf}
 use Rattle.table.specs.Tree.{Tree, leaf, binary, ternary, ref, int, arith, add, cmp, lt, kindOf, build, treeAt, tree}
 use Rattle.table.specs.declared.Dest.the-variants.{None, Reg}
 
@@ -17,7 +17,7 @@ pick : List ℕ
 pick = 5 ∷ 0 ∷ 0 ∷ 1 ∷ 5 ∷ 1 ∷ 1 ∷ 1 ∷ 20 ∷ 0 ∷ 0 ∷ 2 ∷ 3 ∷ 1 ∷ 3 ∷ 1 ∷ 3 ∷ 2 ∷ 4 ∷ 1 ∷ 26 ∷ 0 ∷ 0 ∷ 3 ∷ []
 
 numbers : (checkOf sum 1 0 None ≡ 0) × (checkOf sum 0 0 None ≡ 4) × (checkOf sum 1 0 (Reg 1) ≡ 4) × (checkOf pick 1 1 None ≡ 0) × (checkOf pick 65535 1 None ≡ 5)
-unfolding sum pick checkOf shapeFault layoutFault destFault nodesFault nodeFault kindFault spanFault limitFault children arity lastFault fault _or-else_
+unfolding sum pick checkOf shapeFault layoutFault destFault nodesFault nodeFault spanFault children arity lastFault fault _or-else_
 numbers = (refl, refl, refl, refl, refl)
 
 trees : (tree sum 2 ≡ binary (arith add) (leaf (ref 0)) (leaf (int (pos 5)))) × (tree pick 5 ≡ ternary (binary (cmp lt) (leaf (ref 0)) (leaf (ref 1))) (leaf (int (pos 1))) (leaf (int (pos 2))))

@@ -55,7 +55,7 @@ unfoldable pub arity : ℕ → ℕ
 arity k = cond (leb k 5) 0 (cond (leb k 7) 1 (cond (leb k 25) 2 3))
 
 -- the kind is known, and the payload is 0 but for kinds 3 to 5
-unfoldable pub kindFault : ℕ → ℕ → ℕ
+abbrev pub kindFault : ℕ → ℕ → ℕ
 kindFault k p = fault (ltb 26 k) badNode or-else fault (not (eqb p 0) && not (leb 3 k && leb k 5)) badNode
 
 -- the n children whose last one ends just before position e: one is missing, or they reach down to a lowest node and their greatest depth is a number, at least d
@@ -70,7 +70,7 @@ spanFault Missing f d = badNode
 spanFault (Between e g) f d = fault (not (eqb f e)) badNode or-else fault (not (eqb d (g + 1))) badNode
 
 -- the depth is within its limit, and a Ref below the base
-unfoldable pub limitFault : ℕ → ℕ → ℕ → ℕ → ℕ
+abbrev pub limitFault : ℕ → ℕ → ℕ → ℕ → ℕ
 limitFault k p d base = fault (ltb maxDepth d) tooDeep or-else fault (eqb k 5 && leb base p) notLocal
 
 -- at each node 2, then 3, then 4

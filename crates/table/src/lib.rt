@@ -1,6 +1,7 @@
 // The check of a node table: one pass, from node 0 upward, in which a node looks at its children's records alone.
 ghost use mathlib.Core.Path.{_≡_};
 ghost use Prim.Native.Nat.{ℕ, _+_, _-_, _<_, _≤_, max};
+ghost use Rattle.faults.specs.Faults.{fault, _or-else_};
 ghost use Rattle.table.specs.Table.{nodeCount, kindAt, payloadAt, firstAt, depthAt, arity, kindFault, limitFault, children, spanFault, nodeFault, nodesFault, shapeFault, layoutFault, destFault, lastFault, checkOf, Below, Node, Inner, ChildIs, child1, child2, child3};
 
 // Where a value goes: nowhere in particular, or a register.
@@ -120,23 +121,31 @@ fn arity_of(k: u64) -> u64
     }
 }
 
+// The number of the first of two tests that holds, else none.
+fn either(a: bool, n: u8, b: bool, m: u8) -> u8
+    requires { ⌜ 0 < n ⌝ }
+    ensures { λ r. ⌜ r ≡ fault a n or-else fault b m ⌝ }
+{
+    if a {
+        return n;
+    }
+    if b {
+        return m;
+    }
+    faults::NONE
+}
+
 // The kind is known, and the payload is 0 but for kinds 3 to 5.
 fn kind_fault(k: u64, p: u64) -> u8
     ensures { λ r. ⌜ r ≡ kindFault k p ⌝ }
 {
-    if TERNARY < k {
-        return faults::BAD_NODE;
-    }
-    if p == 0 {
-        return faults::NONE;
-    }
-    if k < INT {
-        return faults::BAD_NODE;
-    }
-    if REF < k {
-        return faults::BAD_NODE;
-    }
-    faults::NONE
+    let idle = !((INT <= k) & (k <= REF));
+    either(
+        TERNARY < k,
+        faults::BAD_NODE,
+        (p != 0) & idle,
+        faults::BAD_NODE,
+    )
 }
 
 // What the n children cover whose last one ends just before node i.
@@ -182,16 +191,12 @@ fn span_fault(s: Span, f: usize, d: u64) -> u8
 fn limit_fault(k: u64, p: u64, d: u64, base: u64) -> u8
     ensures { λ r. ⌜ r ≡ limitFault k p d base ⌝ }
 {
-    if faults::MAX_DEPTH < d {
-        return faults::TOO_DEEP;
-    }
-    if k != REF {
-        return faults::NONE;
-    }
-    if base <= p {
-        return faults::NOT_LOCAL;
-    }
-    faults::NONE
+    either(
+        faults::MAX_DEPTH < d,
+        faults::TOO_DEEP,
+        (k == REF) & (base <= p),
+        faults::NOT_LOCAL,
+    )
 }
 
 // The fault of node i, whose predecessors have none.

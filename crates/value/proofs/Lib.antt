@@ -1,8 +1,3 @@
 -- Laws that belong to no one function.
 pub mod RoundTrip
 pub mod PairLaws
-pub mod Answers
-pub mod Closed
-pub mod Plain
-pub mod Comparing
-pub mod Samples

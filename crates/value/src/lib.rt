@@ -1,5 +1,3 @@
-// Values, their lent form, and their operations with the faults of document 01.
-pub mod binary;
-pub mod ops;
+// Values and their lent form.
 pub mod pairs;
 pub mod value;

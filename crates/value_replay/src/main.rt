@@ -1,17 +1,17 @@
 // Replays operators on lent values, and writes what they answer; tools/oracle/README.md has the layout.
-use value::ops::Answer;
+use ops::Answer;
 use value::value::Lent;
 use value::value::Value;
 
 // The operator of a node kind on two values; the second is left alone by Minus and Not.
 fn apply(kind: u64, a: Value, b: Value) -> Answer {
     if kind == 6 {
-        return value::ops::minus(a);
+        return ops::minus(a);
     }
     if kind == 7 {
-        return value::ops::not(a);
+        return ops::not(a);
     }
-    value::binary::binary(kind, a, b)
+    ops::binary::binary(kind, a, b)
 }
 
 // The pair as a value. A kind that no byte holds is none: `byte_of` makes it 255.

@@ -74,30 +74,53 @@ fn keep_byte(bytes: &mut [u8], at: u64, b: u8) {
     }
 }
 
+// The next n numbers of standard input, each into both slices; what has no place in one is dropped there.
+fn read_into(words: &mut [u64], bytes: &mut [u8], n: u64) {
+    for i in 0..n {
+        let w = read_word();
+        keep_word(words, i, w);
+        keep_byte(bytes, i, byte_of(w));
+    }
+}
+
 // The next n numbers of standard input into the start of `words`; what has no place there is read and dropped.
 pub fn read_words(words: &mut [u64], n: u64) {
-    for i in 0..n {
-        keep_word(words, i, read_word());
-    }
+    let mut none = [0u8; 1];
+    read_into(words, &mut none, n);
 }
 
 // The same for bytes, each of which stands in a number of its own.
 pub fn read_bytes(bytes: &mut [u8], n: u64) {
+    let mut none = [0u64; 1];
+    read_into(&mut none, bytes, n);
+}
+
+// The number at a position of the words, or else of the bytes.
+fn number_at(words: &[u64], bytes: &[u8], i: usize) -> u64 {
+    if i < words.len() {
+        return words[i];
+    }
+    if i < bytes.len() {
+        return wide(bytes[i]);
+    }
+    0
+}
+
+fn write_from(words: &[u64], bytes: &[u8], n: usize) {
     for i in 0..n {
-        keep_byte(bytes, i, byte_of(read_word()));
+        write_word(number_at(words, bytes, i));
     }
 }
 
 // Writes each number of `words`.
 pub fn write_words(words: &[u64]) {
-    for i in 0..words.len() {
-        write_word(words[i]);
-    }
+    let none = [0u8; 1];
+    write_from(words, &none, words.len());
 }
 
 // Writes each byte as a number.
 pub fn write_bytes(bytes: &[u8]) {
-    for i in 0..bytes.len() {
-        write_word(wide(bytes[i]));
-    }
+    let none = [0u64; 1];
+    let k = 0;
+    write_from(&none[..k], bytes, bytes.len());
 }

@@ -1,6 +1,5 @@
 // Replays words: operands to a constructor, words to `decode`, branches to `patch`. Writes the answers; tools/oracle/README.md has the layout.
 use decode::Decoded;
-use decode::patch::Patched;
 use insns::Insn;
 use insns::Made;
 use insns::encode::arith_op;
@@ -21,6 +20,7 @@ use insns::op::Disp;
 use insns::op::Imm16;
 use insns::op::Imm40;
 use insns::op::Op;
+use patch::Patched;
 
 // An operand of a record as each type. The signed ones are sign-extended to 64 bits.
 fn small_of(x: u64) -> u8 {
@@ -407,9 +407,9 @@ fn number_of(p: Patched) -> u8 {
 fn patch_in(store: &mut [u64], n: u64, at: u64, target: u64) -> Patched {
     if n < store.len() as u64 {
         let k = n as usize;
-        return decode::patch::patch(&mut store[..k], at as usize, target);
+        return patch::patch(&mut store[..k], at as usize, target);
     }
-    decode::patch::patch(store, at as usize, target)
+    patch::patch(store, at as usize, target)
 }
 
 // Patches a store of four words, of which n are in use, and writes the number and the store.

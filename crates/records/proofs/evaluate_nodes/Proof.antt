@@ -42,10 +42,10 @@ use Rattle.records.specs.Records.{flattened}
 use Rattle.records.specs.Copy.{evaluateFront}
 use Rattle.records.specs.declared.Node.{Node}
 use Rattle.records.proofs.Node as T
-use Rattle.value.specs.Ops.{resultOf}
-use Rattle.value.specs.declared.ops.Answer.{Answer}
-use Rattle.value.proofs.ops.Answer as Ans
-use Rattle.value.proofs.ops.Answer.Laws as Ans′
+use Rattle.ops.specs.Ops.{resultOf}
+use Rattle.ops.specs.declared.Answer.{Answer}
+use Rattle.ops.proofs.Answer as Ans
+use Rattle.ops.proofs.Answer.Laws as Ans′
 use Rattle.records.proofs.Fills.{length-flattened, evaluate-is}
 use Rattle.records.proofs.Flattens as Flat
 use Rattle.records.proofs.Flattens.{Flatten, Words, words, lends-to, comes-from}

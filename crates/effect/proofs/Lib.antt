@@ -1,0 +1,2 @@
+-- The laws of `effect`: those that its proofs cite.
+pub mod EffectLaws

@@ -1,0 +1,2 @@
+-- What the contracts of `effect` cite.
+pub mod Effect

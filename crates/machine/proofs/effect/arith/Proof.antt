@@ -1,8 +1,0 @@
--- `effect::arith` meets its contract: what was read, and a literal. Assumes nothing.
-use borrow.Author.Needs.{needs}
-use Rattle.machine.proofs.effect.arith.Statement.{statement}
-use Rattle.machine.proofs.effect.arith.Tie as tie
-
-pub arith-spec : {M : Type 1} → statement M
-arith-spec =
-    tie.close (tie.spec (λ c κs. search needs) (λ c κs. search needs) (λ c κs. search needs) (λ c κs. search needs) (λ c. cc))

@@ -1,7 +1,0 @@
--- `effect::bare` meets its contract: by the opcode. Assumes nothing.
-use borrow.Author.Needs.{needs}
-use Rattle.machine.proofs.effect.bare.Statement.{statement}
-use Rattle.machine.proofs.effect.bare.Tie as tie
-
-pub bare-spec : {M : Type 1} → statement M
-bare-spec = tie.close (tie.spec (λ c. search needs) (λ c. search needs) (λ c. search needs) (λ c. cc) (λ c. cc) (λ c. search needs))

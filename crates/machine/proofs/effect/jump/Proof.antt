@@ -1,7 +1,0 @@
--- `effect::jump` meets its contract: two reads, compared. Assumes nothing.
-use borrow.Author.Needs.{needs}
-use Rattle.machine.proofs.effect.jump.Statement.{statement}
-use Rattle.machine.proofs.effect.jump.Tie as tie
-
-pub jump-spec : {M : Type 1} → statement M
-jump-spec = tie.close (tie.spec (λ c κs. search needs) (λ c κs. search needs) (λ c κs. search needs) (λ c. cc))

@@ -1,7 +1,0 @@
--- `effect::jump_imm` meets its contract: a read and a literal, compared. Assumes nothing.
-use borrow.Author.Needs.{needs}
-use Rattle.machine.proofs.effect.jump_imm.Statement.{statement}
-use Rattle.machine.proofs.effect.jump_imm.Tie as tie
-
-pub jump-imm-spec : {M : Type 1} → statement M
-jump-imm-spec = tie.close (tie.spec (λ c κs. search needs) (λ c κs. search needs) (λ c κs. search needs) (λ c. cc))

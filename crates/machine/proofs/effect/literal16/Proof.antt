@@ -1,8 +1,0 @@
--- `effect::literal16` meets its contract: the literal is widened. Assumes nothing.
-use borrow.Author.Needs.{needs}
-use Rattle.machine.proofs.EffectLaws.{widens16, literal-wide}
-use Rattle.machine.proofs.effect.literal16.Statement.{statement}
-use Rattle.machine.proofs.effect.literal16.Tie as tie
-
-pub literal16-spec : {M : Type 1} → statement M
-literal16-spec = tie.close (tie.spec (λ c. search (widens16, literal-wide, needs)) (λ c κs. search needs) (λ c. search (widens16, literal-wide, needs)))

@@ -1,9 +1,0 @@
--- `effect::raw` meets its contract: by the tests on the bits. Assumes nothing.
-use borrow.Author.Needs.{needs}
-use Rattle.machine.proofs.EffectLaws.{effects}
-use Rattle.machine.proofs.effect.raw.Statement.{statement}
-use Rattle.machine.proofs.effect.raw.Tie as tie
-
-pub raw-spec : {M : Type 1} → statement M
-raw-spec =
-    tie.close (tie.spec (λ c κs. search needs) (λ c. search (effects, needs)) (λ c. search (effects, needs)) (λ c. search (effects, needs)) (λ c κs. search needs) (λ c. search (effects, needs)))

@@ -1,0 +1,6 @@
+-- Laws that belong to no one function.
+pub mod Answers
+pub mod Closed
+pub mod Plain
+pub mod Comparing
+pub mod Samples

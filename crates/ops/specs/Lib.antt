@@ -1,0 +1,3 @@
+-- What the contracts of `ops` cite.
+pub mod Ops
+pub mod Seen

@@ -1,0 +1,36 @@
+// One entry for every binary operator, by its node kind: what an evaluator and a machine both call.
+ghost use mathlib.Core.Path.{_≡_};
+ghost use Rattle.value.specs.Value.{meaning};
+ghost use Rattle.ops.specs.Ops as Ops;
+ghost use Rattle.ops.specs.Ops.{resultOf};
+use crate::Answer;
+use crate::How;
+use crate::compare;
+use crate::operate;
+use int64::Cmp;
+use int64::Op;
+use value::value::Value;
+
+pub fn binary(kind: u64, a: Value, b: Value) -> Answer
+    ensures { λ r. ⌜ resultOf r ≡ Ops.binaryOf kind (meaning a) (meaning b) ⌝ }
+{
+    match kind {
+        table::BIT_AND => operate(How::Whole(Op::And), a, b),
+        table::BIT_OR => operate(How::Whole(Op::Or), a, b),
+        table::BIT_XOR => operate(How::Whole(Op::Xor), a, b),
+        table::LSHIFT => operate(How::Whole(Op::Shl), a, b),
+        table::RSHIFT => operate(How::Whole(Op::Shr), a, b),
+        table::ADD => operate(How::Arith(Op::Add, float::Op::Add), a, b),
+        table::SUB => operate(How::Arith(Op::Sub, float::Op::Sub), a, b),
+        table::MUL => operate(How::Arith(Op::Mul, float::Op::Mul), a, b),
+        table::DIV => operate(How::Floats(float::Op::Div), a, b),
+        table::MOD => operate(How::Whole(Op::Rem), a, b),
+        table::EQ => compare(Cmp::Eq, a, b),
+        table::NE => compare(Cmp::Ne, a, b),
+        table::LT => compare(Cmp::Lt, a, b),
+        table::LE => compare(Cmp::Le, a, b),
+        table::GT => compare(Cmp::Lt, b, a),
+        table::GE => compare(Cmp::Le, b, a),
+        _ => Answer::Fault(faults::WRONG_KIND),
+    }
+}

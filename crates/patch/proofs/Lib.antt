@@ -1,0 +1,4 @@
+-- Laws of patching.
+pub mod Aim
+pub mod Facts
+pub mod Samples

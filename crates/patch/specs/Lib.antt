@@ -1,0 +1,2 @@
+-- What the contracts of patching cite.
+pub mod Patch
