@@ -1,22 +1,12 @@
--- The arms of `form` and of `decode`, and the test of a raw immediate. Assumes nothing.
+-- The arms of `decode`, and the test of a raw immediate. Assumes nothing.
 use mathlib.Core.Path.{_≡_, sym, ap, _∙_}
 use mathlib.Core.Bool.{Bool, true, false}
-use Prim.Native.Nat.{ℕ, zero, suc, _≤_, zero-le, _/_, _%_}
-use native.Mathlib.Omega.{arith}
+use Prim.Native.Nat.{ℕ, _/_, _%_}
 use Rattle.insns.specs.Insns.{formAt}
 use Rattle.insns.specs.Fields.{isRaw}
 use Rattle.decode.specs.Decode.{pickDecoded, ifRaw, decodeAs, decodeOf}
 use Rattle.insns.specs.declared.op.Form.{Form}
 use Rattle.decode.specs.declared.Decoded.{Decoded}
-
--- x is none of the numbers below n, as the last arm of a `match` leaves it
-abbrev pub NoneBelow : ℕ → ℕ → Type 0
-NoneBelow x zero = Unit {0}
-NoneBelow x (suc n) = NoneBelow x n × (x ≡ n → ⊥)
-
-pub none : (x n : ℕ) → NoneBelow x n → n ≤ x
-none x zero h = zero-le
-none x (suc n) h = let l : n ≤ x = none x n (h .0) in let k : x ≡ n → ⊥ = h .1 in omega arith
 
 -- an arm of `decode`: f is what the opcode says, and the arm knows that f is g
 pub arm : (w : ℕ) {f g : Form} {r : Decoded} → f ≡ formAt (w % 256) → f ≡ g → r ≡ decodeAs g (w / 256) → r ≡ decodeOf w

@@ -17,7 +17,7 @@ use crate::cut::slot_of;
 use crate::cut::three_of;
 use crate::cut::two_of;
 use crate::cut::wide_of;
-use crate::form::form;
+use form::form;
 use insns::op::Disp;
 use insns::op::Form;
 use insns::op::Imm16;
@@ -27,7 +27,6 @@ ghost use mathlib.Core.Path.{_≡_};
 ghost use Rattle.decode.specs.Decode.{decodeOf};
 
 pub mod cut;
-pub mod form;
 
 // What a word decodes to; Bad is number 10.
 pub enum Decoded {

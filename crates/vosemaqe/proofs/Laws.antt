@@ -7,10 +7,10 @@ use Rattle.table.specs.declared.Dest.{Dest}
 use Rattle.table.specs.declared.Dest.the-variants.{None, Reg}
 use Rattle.table.specs.Table.{checkOf}
 use Rattle.value.specs.Value.{meaning, kindOf, payloadOf}
-use Rattle.value.specs.Ops.{Result, resultOf}
+use Rattle.ops.specs.Ops.{Result, resultOf}
 use Rattle.value.specs.declared.value.Value.{Value}
-use Rattle.value.specs.declared.ops.Answer.{Answer}
-use Rattle.value.specs.declared.ops.Answer.the-variants as A
+use Rattle.ops.specs.declared.Answer.{Answer}
+use Rattle.ops.specs.declared.Answer.the-variants as A
 use Rattle.codegen.specs.Compile as C
 use Rattle.codegen.specs.Compile.{compileOf}
 use Rattle.codegen.specs.declared.compile.Compiled.{Compiled}
@@ -19,9 +19,9 @@ use Rattle.faults.specs.Numbers.{undecoded, noFit}
 use Rattle.insns.specs.declared.Insn.{Insn}
 use Rattle.insns.specs.declared.Made.{Made}
 use Rattle.insns.specs.declared.op.Op.{Op}
-use Rattle.decode.specs.Patch.{patchedNumber}
+use Rattle.patch.specs.Patch.{patchedNumber}
 use Rattle.decode.specs.declared.Decoded.{Decoded}
-use Rattle.decode.specs.declared.patch.Patched.{Patched}
+use Rattle.patch.specs.declared.Patched.{Patched}
 use Rattle.parts.specs.Parts.{partsOf}
 use Rattle.parts.specs.declared.Parts.{Parts}
 use Rattle.vosemaqe.specs.Boundary.{destOf, report, reportOf, Compiles, found, foundOf, shown, shownAs, shownOf, coined, coinedOf}

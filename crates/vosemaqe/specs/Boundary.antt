@@ -5,8 +5,8 @@ use Prim.Native.Nat.{ℕ, zero, suc}
 use Rattle.table.specs.declared.Dest.{Dest}
 use Rattle.table.specs.declared.Dest.the-variants.{None, Reg}
 use Rattle.value.specs.Value.{kindOf, payloadOf}
-use Rattle.value.specs.Ops as Ops
-use Rattle.value.specs.Ops.{Result}
+use Rattle.ops.specs.Ops as Ops
+use Rattle.ops.specs.Ops.{Result}
 use Rattle.emit.specs.State.{Res, State}
 use Rattle.codegen.specs.Compile.{answered, padded, wordsOf, kindsOf, payloadsOf}
 use Rattle.codegen.specs.declared.compile.Compiled.{Compiled}

@@ -2,21 +2,21 @@
 // of the answer is returned, results are left in cells. include/vosemaqe.h is the manual.
 use codegen::compile::Compiled;
 use decode::Decoded;
-use decode::patch::Patched;
 use insns::Made;
+use ops::Answer;
+use patch::Patched;
 use table::Dest;
-use value::ops::Answer;
 ghost use mathlib.Core.Path.{_≡_};
 ghost use Prim.Native.Nat.{ℕ, min};
 ghost use lib.ListN.{length, replicate};
 ghost use Rattle.faults.specs.Limits.{maxNodes};
 ghost use Rattle.table.specs.Table.{checkOf};
-ghost use Rattle.value.specs.Ops.{resultOf};
+ghost use Rattle.ops.specs.Ops.{resultOf};
 ghost use Rattle.eval.specs.Evaluate.{evaluateOf};
 ghost use Rattle.codegen.specs.Compile.{compileOf};
 ghost use Rattle.machine.specs.Run.{out, ran, runOf, runPartOf};
 ghost use Rattle.decode.specs.Decode.{decodeOf};
-ghost use Rattle.decode.specs.Patch.{patchedNumber, patchOf};
+ghost use Rattle.patch.specs.Patch.{patchedNumber, patchOf};
 ghost use Rattle.parts.specs.Shapes.{encodeOf};
 ghost use Rattle.vosemaqe.specs.Boundary.{destOf, report, reportOf, Compiles, found, foundOf, shown, shownOf, coined, coinedOf};
 
@@ -361,6 +361,6 @@ pub extern "C" fn vosemaqe_encode(
 pub extern "C" fn vosemaqe_patch(words: &mut [u64], at: usize, target: u64) -> u8
     ensures { λ r. ⌜ (r ≡ patchedNumber (patchOf (now (words .entry)) at target .answer)) × (now (words .exit) ≡ patchOf (now (words .entry)) at target .words) ⌝ }
 {
-    let p = decode::patch::patch(words, at, target);
+    let p = patch::patch(words, at, target);
     patched_number(p)
 }

@@ -1,10 +1,10 @@
--- `form::form` meets its contract: in an arm the opcode is the arm's number, and past the arms it is past the table. Assumes nothing.
+-- `form` meets its contract: in an arm the opcode is the arm's number, and past the arms it is past the table. Assumes nothing.
 use mathlib.Core.Path.{sym, ap}
 use Rattle.insns.specs.Insns.{formAt}
 use Rattle.insns.proofs.Table.{past}
-use Rattle.decode.proofs.Table.{none}
-use Rattle.decode.proofs.form.form.Statement.{statement}
-use Rattle.decode.proofs.form.form.Tie as tie
+use Rattle.form.proofs.Arms.{none}
+use Rattle.form.proofs.form.Statement.{statement}
+use Rattle.form.proofs.form.Tie as tie
 
 pub form-spec : {M : Type 1} → statement M
 form-spec =

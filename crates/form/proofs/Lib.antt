@@ -1,0 +1,2 @@
+-- A law of the arms of a `match`.
+pub mod Arms
