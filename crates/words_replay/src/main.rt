@@ -64,27 +64,18 @@ fn imm40_of(x: u64) -> Imm40 {
     }
 }
 
-// The constructor of each opcode.
-fn construct(op: u64, x1: u64, x2: u64, x3: u64, x4: u64, x5: u64) -> Made {
-    let disp1 = disp_of(x1);
-    let imm401 = imm40_of(x1);
+// The constructor of each opcode: first up to the operators,
+fn operator_word(op: u8, x1: u64, x2: u64, x3: u64, x4: u64, x5: u64) -> Made {
     let reg1 = reg_of(x1);
-    let wide1 = wide_of(x1);
-    let disp2 = disp_of(x2);
-    let imm162 = imm16_of(x2);
     let imm402 = imm40_of(x2);
     let reg2 = reg_of(x2);
-    let small2 = small_of(x2);
     let wide2 = wide_of(x2);
-    let disp3 = disp_of(x3);
     let imm163 = imm16_of(x3);
     let reg3 = reg_of(x3);
     let small3 = small_of(x3);
-    let wide3 = wide_of(x3);
     let small4 = small_of(x4);
-    let wide4 = wide_of(x4);
     let small5 = small_of(x5);
-    match small_of(op) {
+    match op {
         Insn::PANIC => Insn::panic(),
         Insn::BREAKPOINT => Insn::breakpoint(),
         Insn::NOP => Insn::nop(),
@@ -112,6 +103,18 @@ fn construct(op: u64, x1: u64, x2: u64, x3: u64, x4: u64, x5: u64) -> Made {
         Insn::SUB_IMM16 => Insn::sub_imm16(reg1, reg2, imm163),
         Insn::MUL_IMM16 => Insn::mul_imm16(reg1, reg2, imm163),
         Insn::NOT => Insn::not(reg1, reg2),
+        _ => Made::Refused,
+    }
+}
+
+// then those on closures, cells, fields and arrays,
+fn object_word(op: u8, x1: u64, x2: u64, x3: u64) -> Made {
+    let reg1 = reg_of(x1);
+    let reg2 = reg_of(x2);
+    let wide2 = wide_of(x2);
+    let reg3 = reg_of(x3);
+    let wide3 = wide_of(x3);
+    match op {
         Insn::CLOS_NEW => Insn::clos_new(reg1, wide2, reg3),
         Insn::CLOS_SET => Insn::clos_set(reg1, reg2, reg3),
         Insn::CLOS_GET => Insn::clos_get(reg1, reg2),
@@ -128,6 +131,17 @@ fn construct(op: u64, x1: u64, x2: u64, x3: u64, x4: u64, x5: u64) -> Made {
         Insn::ARR_NEW => Insn::arr_new(reg1, wide2),
         Insn::ARR_PUSH => Insn::arr_push(reg1, reg2),
         Insn::BA_CLONE => Insn::ba_clone(reg1, reg2),
+        _ => Made::Refused,
+    }
+}
+
+// the branches by one register or two,
+fn register_branch(op: u8, x1: u64, x2: u64, x3: u64) -> Made {
+    let reg1 = reg_of(x1);
+    let disp2 = disp_of(x2);
+    let reg2 = reg_of(x2);
+    let disp3 = disp_of(x3);
+    match op {
         Insn::IF_TRUE => Insn::if_true(reg1, disp2),
         Insn::IF_FALSE => Insn::if_false(reg1, disp2),
         Insn::JEQ => Insn::jeq(reg1, reg2, disp3),
@@ -140,6 +154,17 @@ fn construct(op: u64, x1: u64, x2: u64, x3: u64, x4: u64, x5: u64) -> Made {
         Insn::JNLE => Insn::jnle(reg1, reg2, disp3),
         Insn::JNGT => Insn::jngt(reg1, reg2, disp3),
         Insn::JNGE => Insn::jnge(reg1, reg2, disp3),
+        _ => Made::Refused,
+    }
+}
+
+// those with a literal, and jmp,
+fn literal_branch(op: u8, x1: u64, x2: u64, x3: u64) -> Made {
+    let disp1 = disp_of(x1);
+    let reg1 = reg_of(x1);
+    let imm162 = imm16_of(x2);
+    let disp3 = disp_of(x3);
+    match op {
         Insn::JEQ_IMM16 => Insn::jeq_imm16(reg1, imm162, disp3),
         Insn::JNE_IMM16 => Insn::jne_imm16(reg1, imm162, disp3),
         Insn::JLT_IMM16 => Insn::jlt_imm16(reg1, imm162, disp3),
@@ -151,6 +176,21 @@ fn construct(op: u64, x1: u64, x2: u64, x3: u64, x4: u64, x5: u64) -> Made {
         Insn::JNGT_IMM16 => Insn::jngt_imm16(reg1, imm162, disp3),
         Insn::JNGE_IMM16 => Insn::jnge_imm16(reg1, imm162, disp3),
         Insn::JMP => Insn::jmp(disp1),
+        _ => Made::Refused,
+    }
+}
+
+// and calls and returns.
+fn call_word(op: u8, x1: u64, x2: u64, x3: u64, x4: u64) -> Made {
+    let imm401 = imm40_of(x1);
+    let reg1 = reg_of(x1);
+    let wide1 = wide_of(x1);
+    let reg2 = reg_of(x2);
+    let small2 = small_of(x2);
+    let small3 = small_of(x3);
+    let wide3 = wide_of(x3);
+    let wide4 = wide_of(x4);
+    match op {
         Insn::CALL_OPND => Insn::call_opnd(reg1, small2, wide3),
         Insn::CALL_HOST => Insn::call_host(reg1, reg2, small3),
         Insn::CALL_DIRECT => Insn::call_direct(wide1, reg2, small3),
@@ -164,6 +204,23 @@ fn construct(op: u64, x1: u64, x2: u64, x3: u64, x4: u64, x5: u64) -> Made {
         Insn::RET_IMM40 => Insn::ret_imm40(imm401),
         _ => Made::Refused,
     }
+}
+
+fn construct(op: u64, x1: u64, x2: u64, x3: u64, x4: u64, x5: u64) -> Made {
+    let k = small_of(op);
+    if k <= Insn::NOT {
+        return operator_word(k, x1, x2, x3, x4, x5);
+    }
+    if k <= Insn::BA_CLONE {
+        return object_word(k, x1, x2, x3);
+    }
+    if k <= Insn::JNGE {
+        return register_branch(k, x1, x2, x3);
+    }
+    if k <= Insn::JMP {
+        return literal_branch(k, x1, x2, x3);
+    }
+    call_word(k, x1, x2, x3, x4)
 }
 
 // A signed operand of a decoded instruction.
@@ -206,176 +263,142 @@ fn wide(op: u8) -> u64 {
     op as u64
 }
 
+// A row of a decoded instruction.
+fn write_op_row(op: u8, b: u64, c: u64, d: u64, e: u64, f: u64) {
+    write_row(0, wide(op), b, c, d, e, f);
+}
+
 // The opcode of a decoded instruction and its operands in declared order.
 fn write_op(i: Op) {
     match i {
-        Op::Bare(k) => write_row(0, wide(bare_op(k)), 0, 0, 0, 0, 0),
-        Op::LoadImm40(dst, imm) => write_row(
-            0,
-            wide(Insn::LOAD_IMM40),
+        Op::Bare(k) => write_op_row(bare_op(k), 0, 0, 0, 0, 0),
+        Op::LoadImm40(dst, imm) => write_op_row(
+            Insn::LOAD_IMM40,
             dst as u64,
             bits_of(Signed::Imm40(imm)),
             0,
             0,
             0,
         ),
-        Op::Two(k, dst, src) => write_row(0, wide(two_op(k)), dst as u64, src as u64, 0, 0, 0),
-        Op::Slot(k, dst, slot) => write_row(0, wide(slot_op(k)), dst as u64, slot as u64, 0, 0, 0),
-        Op::Three(k, dst, a, b) => write_row(
-            0,
-            wide(three_op(k)),
-            dst as u64,
-            a as u64,
-            b as u64,
-            0,
-            0,
-        ),
-        Op::Shift(k, dst, a, shift) => write_row(
-            0,
-            wide(shift_op(k)),
+        Op::Two(k, dst, src) => write_op_row(two_op(k), dst as u64, src as u64, 0, 0, 0),
+        Op::Slot(k, dst, slot) => write_op_row(slot_op(k), dst as u64, slot as u64, 0, 0, 0),
+        Op::Three(k, dst, a, b) => write_op_row(three_op(k), dst as u64, a as u64, b as u64, 0, 0),
+        Op::Shift(k, dst, a, shift) => write_op_row(
+            shift_op(k),
             dst as u64,
             a as u64,
             shift as u64,
             0,
             0,
         ),
-        Op::BitAndMask(dst, a, lo, len) => write_row(
-            0,
-            wide(Insn::BIT_AND_MASK),
+        Op::BitAndMask(dst, a, lo, len) => write_op_row(
+            Insn::BIT_AND_MASK,
             dst as u64,
             a as u64,
             lo as u64,
             len as u64,
             0,
         ),
-        Op::RshiftMask(dst, a, shift, lo, len) => write_row(
-            0,
-            wide(Insn::RSHIFT_MASK),
+        Op::RshiftMask(dst, a, shift, lo, len) => write_op_row(
+            Insn::RSHIFT_MASK,
             dst as u64,
             a as u64,
             shift as u64,
             lo as u64,
             len as u64,
         ),
-        Op::Arith(k, dst, a, imm) => write_row(
-            0,
-            wide(arith_op(k)),
+        Op::Arith(k, dst, a, imm) => write_op_row(
+            arith_op(k),
             dst as u64,
             a as u64,
             bits_of(Signed::Imm16(imm)),
             0,
             0,
         ),
-        Op::ClosNew(dst, fun, num) => write_row(
-            0,
-            wide(Insn::CLOS_NEW),
+        Op::ClosNew(dst, fun, num) => write_op_row(
+            Insn::CLOS_NEW,
             dst as u64,
             fun as u64,
             num as u64,
             0,
             0,
         ),
-        Op::ClosSet(clos, src, idx) => write_row(
-            0,
-            wide(Insn::CLOS_SET),
+        Op::ClosSet(clos, src, idx) => write_op_row(
+            Insn::CLOS_SET,
             clos as u64,
             src as u64,
             idx as u64,
             0,
             0,
         ),
-        Op::ClosGet(dst, idx) => write_row(
-            0,
-            wide(Insn::CLOS_GET),
-            dst as u64,
-            idx as u64,
-            0,
-            0,
-            0,
-        ),
-        Op::One(k, dst) => write_row(0, wide(one_op(k)), dst as u64, 0, 0, 0, 0),
-        Op::Wide(k, dst, val, class) => write_row(
-            0,
-            wide(wide_op(k)),
+        Op::ClosGet(dst, idx) => write_op_row(Insn::CLOS_GET, dst as u64, idx as u64, 0, 0, 0),
+        Op::One(k, dst) => write_op_row(one_op(k), dst as u64, 0, 0, 0, 0),
+        Op::Wide(k, dst, val, class) => write_op_row(
+            wide_op(k),
             dst as u64,
             val as u64,
             class as u64,
             0,
             0,
         ),
-        Op::If(k, val, disp) => write_row(
-            0,
-            wide(if_op(k)),
+        Op::If(k, val, disp) => write_op_row(
+            if_op(k),
             val as u64,
             bits_of(Signed::Disp(disp)),
             0,
             0,
             0,
         ),
-        Op::Jump(k, a, b, disp) => write_row(
-            0,
-            wide(jump_op(k)),
+        Op::Jump(k, a, b, disp) => write_op_row(
+            jump_op(k),
             a as u64,
             b as u64,
             bits_of(Signed::Disp(disp)),
             0,
             0,
         ),
-        Op::JumpImm(k, a, imm, disp) => write_row(
-            0,
-            wide(jump_imm_op(k)),
+        Op::JumpImm(k, a, imm, disp) => write_op_row(
+            jump_imm_op(k),
             a as u64,
             bits_of(Signed::Imm16(imm)),
             bits_of(Signed::Disp(disp)),
             0,
             0,
         ),
-        Op::Jmp(disp) => write_row(0, wide(Insn::JMP), bits_of(Signed::Disp(disp)), 0, 0, 0, 0),
-        Op::Call(k, start, argc, cache) => write_row(
-            0,
-            wide(call_op(k)),
+        Op::Jmp(disp) => write_op_row(Insn::JMP, bits_of(Signed::Disp(disp)), 0, 0, 0, 0),
+        Op::Call(k, start, argc, cache) => write_op_row(
+            call_op(k),
             start as u64,
             argc as u64,
             cache as u64,
             0,
             0,
         ),
-        Op::CallHost(host, start, argc) => write_row(
-            0,
-            wide(Insn::CALL_HOST),
+        Op::CallHost(host, start, argc) => write_op_row(
+            Insn::CALL_HOST,
             host as u64,
             start as u64,
             argc as u64,
             0,
             0,
         ),
-        Op::ById(k, fun, start, argc) => write_row(
-            0,
-            wide(by_id_op(k)),
+        Op::ById(k, fun, start, argc) => write_op_row(
+            by_id_op(k),
             fun as u64,
             start as u64,
             argc as u64,
             0,
             0,
         ),
-        Op::CallMethodHost(start, argc, tag, cache) => write_row(
-            0,
-            wide(Insn::CALL_METHOD_HOST),
+        Op::CallMethodHost(start, argc, tag, cache) => write_op_row(
+            Insn::CALL_METHOD_HOST,
             start as u64,
             argc as u64,
             tag as u64,
             cache as u64,
             0,
         ),
-        Op::RetImm40(imm) => write_row(
-            0,
-            wide(Insn::RET_IMM40),
-            bits_of(Signed::Imm40(imm)),
-            0,
-            0,
-            0,
-            0,
-        ),
+        Op::RetImm40(imm) => write_op_row(Insn::RET_IMM40, bits_of(Signed::Imm40(imm)), 0, 0, 0, 0),
     }
 }
 
