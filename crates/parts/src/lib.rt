@@ -1,6 +1,6 @@
 // An instruction as numbers, an opcode and five operands, and from such numbers to a word. A signed operand is the two's complement pattern of
 // 64 bits; an operand that a form does not have is 0.
-use decode::form::form;
+use form::form;
 use insns::Insn;
 use insns::Made;
 use insns::encode::arith_op;
