@@ -7,13 +7,14 @@ use native.Mathlib.Omega.{arith}
 use native.Mathlib.Numerals.{add-one}
 use lib.Dec.{ltb, leb}
 use lib.IntN.{ℤ, pos, negsuc, _+ℤ_}
+use lib.Ieee.{Float}
 use lib.ListN.{length, getD, set}
 use lib.Signed.{mag, ltZ}
 use mir.Syntax.{w32, w64}
 use mir.Val.{SFits, toZ, ofZ}
 use mir.Facts.{toZ-ofZ}
 use borrow.Author.Tests.{lt-ltb, le-ltb, le-leb, lt-leb, ltb-true}
-use Rattle.faults.specs.Numbers.{undecoded, outOfRange}
+use Rattle.faults.specs.Numbers.{undecoded, wrongKind, outOfRange}
 use Rattle.effect.proofs.EffectLaws.{widens, widened}
 use Rattle.decode.specs.Decode.{decodeOf}
 use Rattle.decode.specs.declared.Decoded.{Decoded}
@@ -116,6 +117,20 @@ module _ (len at : ℕ) (z : ℤ) {a : Answer} where
   pub branch-fault : {n : ℕ} → a ≡ A.Fault n → Stepped.Stopped n ≡ toldOf (branchOf len at z (resultOf a))
   branch-fault e = rw e
 
+  -- no Bool: 20
+  module _ {v : Value} (e : a ≡ A.Is v) where
+    pub branch-nil : v ≡ C.Nil → Stepped.Stopped wrongKind ≡ toldOf (branchOf len at z (resultOf a))
+    branch-nil f = rw (e, f)
+
+    pub branch-int : {n : ℤ} → v ≡ C.Int n → Stepped.Stopped wrongKind ≡ toldOf (branchOf len at z (resultOf a))
+    branch-int f = rw (e, f)
+
+    pub branch-float : {x : Float} → v ≡ C.Float x → Stepped.Stopped wrongKind ≡ toldOf (branchOf len at z (resultOf a))
+    branch-float f = rw (e, f)
+
+    pub branch-nan : {p : ℕ} → v ≡ C.Nan p → Stepped.Stopped wrongKind ≡ toldOf (branchOf len at z (resultOf a))
+    branch-nan f = rw (e, f)
+
 -- a branch writes nothing
 module _ (ks ps : List ℕ) where
   lands : (len : ℕ) (z : ℤ) → lent ks ps (landAt len z) ≡ after (toldOf (landAt len z)) ks ps
@@ -176,6 +191,6 @@ stop-keeps ws sks sps ks ps at n {ks′} {ps′} e = by (settleOf (length ws) (s
     by (put p d v) e = (cc, cc)
     by (stop m) e = (cc, cc)
 
-pub ruleset steps = (lands-back, lands-before, lands-on, lands-past, write-past, write-value, write-fault, widens32, branch-taken, branch-left, branch-fault)
+pub ruleset steps = (lands-back, lands-before, lands-on, lands-past, write-past, write-value, write-fault, widens32, branch-taken, branch-left, branch-fault, branch-nil, branch-int, branch-float, branch-nan)
 
 pub ruleset settles = (settle-write, settle-branch, settle-next, settle-halt, word-bad, word-is)
