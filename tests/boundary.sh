@@ -1,6 +1,7 @@
 #!/usr/bin/env bash
 # Everything that is run against the archive: tests/boundary.sh [fuzz calls, 200000] [ARCHIVE]. Builds and proves the archive if none is given;
-# the C program on document 01's samples, the examples of the Rust crate, hostile calls, some of them under valgrind where there is one.
+# the C program on document 01's samples, the examples of the Rust crate, hostile calls, some of them under valgrind where there is one, the comparison with
+# the Rust on 20,000 random jobs (tools/large.sh by itself runs 300,000), and the stack that the functions touch.
 set -euo pipefail
 cd "$(dirname "$0")/.."
 [ $# -gt 1 ] || rt staticlib vosemaqe >/dev/null
@@ -10,3 +11,5 @@ export VOSEMAQE_LIB=${archive%/*}
 (cd bindings/rust && cargo test --offline --locked --quiet --doc >target/doc.log 2>&1) || { cat bindings/rust/target/doc.log; exit 1; }
 echo "bindings: $(grep -o '[0-9]* passed' bindings/rust/target/doc.log) of the Rust crate's examples"
 tools/fuzz.sh "${1:-200000}" 1 5000
+tools/large.sh 20000
+tools/stack.sh 200 | grep '^stack:'

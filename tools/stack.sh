@@ -3,7 +3,7 @@
 # First as they were touched on a painted stack, then the frames that the code takes (the least and the most agree where nothing recurses).
 set -euo pipefail
 cd "$(dirname "$0")/.."
-rt staticlib vosemaqe >/dev/null
+[ -n "${VOSEMAQE_LIB:-}" ] || rt staticlib vosemaqe >/dev/null
 cd tools/boundary
 cargo build --offline --locked --release --quiet
 target/release/stack "$@"
