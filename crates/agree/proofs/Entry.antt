@@ -6,7 +6,7 @@ use Prim.Native.Nat.{ℕ, _+_, _-_, _≤_, _<_, _^_, min}
 use native.Mathlib.Omega.{arith}
 use lib.Dec.{ltb}
 use lib.ListN.{length, getD, take, replicate, length-append, List·getD-eq-default}
-use lib.Seq.{take-at}
+use lib.Seq.{take-at, length-take-le}
 use borrow.Author.Tests.{ltb-true, ltb-false}
 use Rattle.faults.specs.Limits.{maxNodes}
 use Rattle.value.specs.Value.{kindOf, payloadOf}
@@ -17,7 +17,7 @@ use Rattle.machine.specs.Run.{Out, out, ran}
 use Rattle.emit.specs.State.{Res, done, fail, State}
 use Rattle.codegen.specs.declared.compile.Compiled.{Compiled}
 use Rattle.codegen.specs.declared.compile.Compiled.the-variants.{Done, Refused}
-use Rattle.codegen.specs.Compile.{compileOf, Compiles, padded, wordsOf}
+use Rattle.codegen.specs.Compile.{compileOf, Compiles, answered, padded, wordsOf, kindsOf, payloadsOf}
 use Rattle.agree.specs.Claim.{Accepted, Wide, Slots, Promised, Whole}
 use Rattle.agree.proofs.Theorem.{refusals, slots-left}
 
@@ -68,6 +68,10 @@ front-fits {m} {code = code} {c = c} h e l =
     let d = length-append (wordsOf m) (replicate {A = ℕ} (c - length (wordsOf m)) 0) in
     omega arith
 
+-- as many as the front has
+pub front-count : (n : ℕ) (l : List ℕ) → n ≤ length l → n ≡ length (take n l)
+front-count n l h = sym (length-take-le n l h)
+
 -- ---- the two ways out
 
 module _ (nodes : List ℕ) (params locals : ℕ) (dest : Dest) {c k p : ℕ} (ks ps : List ℕ) (budget : ℕ) {q : Compiled} {code sks sps : List ℕ} {res : Result} where
@@ -116,3 +120,33 @@ module _ (nodes : List ℕ) (params locals : ℕ) (dest : Dest) {c k p : ℕ} (k
             run = rw z;
             agree = λ passed. refusals nodes params locals dest maxNodes c (min k p) f passed (sym is);
           }
+
+-- ---- one outcome only
+
+-- what compiling answers and leaves
+pub record Alike (q q' : Compiled) (code code' sks sks' sps sps' : List ℕ) : Type 0 where
+  pub answer : q ≡ q'
+  pub words : code ≡ code'
+  pub slotKinds : sks ≡ sks'
+  pub slotPayloads : sps ≡ sps'
+
+pub compiles-once :
+    {m m' : Res (ℕ × State)} {q q' : Compiled} {code code' sks sks' sps sps' : List ℕ} {c k p : ℕ} → m ≡ m' →
+    Compiles q m code sks sps c k p → Compiles q' m' code' sks' sps' c k p → Alike q q' code code' sks sks' sps sps'
+compiles-once {c = c} {k = k} {p = p} e h h' =
+    record {
+      answer = h .answer ∙ ap answered e ∙ sym (h' .answer);
+      words = h .words ∙ ap (λ (m : Res (ℕ × State)). padded (wordsOf m) c) e ∙ sym (h' .words);
+      slotKinds = h .slotKinds ∙ ap (λ (m : Res (ℕ × State)). padded (kindsOf m) k) e ∙ sym (h' .slotKinds);
+      slotPayloads = h .slotPayloads ∙ ap (λ (m : Res (ℕ × State)). padded (payloadsOf m) p) e ∙ sym (h' .slotPayloads);
+    }
+
+-- what the whole call answers and leaves
+pub whole-once :
+    {nodes : List ℕ} {params locals : ℕ} {dest : Dest} {c k p : ℕ} {ks ps : List ℕ} {budget : ℕ} {q q' : Compiled} {code code' sks sks' sps sps' : List ℕ} {res res' : Result} {o o' : Out} →
+    Whole nodes params locals dest c k p ks ps budget q code sks sps res o → Whole nodes params locals dest c k p ks ps budget q' code' sks' sps' res' o' →
+    Alike q q' code code' sks sks' sps sps' × (res ≡ res') × (o ≡ o')
+whole-once {ks = ks} {ps = ps} {budget = budget} h h' =
+    let e = h .is ∙ sym (h' .is) in
+    let a = compiles-once e (h .compile) (h' .compile) in
+    (a, h .tree ∙ sym (h' .tree), h .run ∙ rw (e, a .slotKinds, a .slotPayloads) (sym (h' .run)))

@@ -14,6 +14,7 @@ pub mod Bridge
 pub mod Pairs
 pub mod Consts
 pub mod Theorem
+pub mod Placed
 pub mod Samples
 pub mod Places
 pub mod Entry

@@ -45,16 +45,16 @@ use Rattle.agree.proofs.Pairs.{Wide, wide-values, run-same, same-report
 
 -- ---- the whole expression as a fragment
 
-abbrev DestLow : Dest → ℕ → Type 0
+abbrev pub DestLow : Dest → ℕ → Type 0
 DestLow None n = Unit {0}
 DestLow (Reg d) n = d < n
 
-abbrev whole : Tree → Dest → ℕ → Vf
+abbrev pub whole : Tree → Dest → ℕ → Vf
 whole t None n = frag t .value Any n []
 whole t (Reg d) n = intoF (frag t .value (To d) n []) d n
 
 -- what compiling gives: the register and the state
-abbrev made : ℕ → ℕ → ℕ → Vf → ℕ × State
+abbrev pub made : ℕ → ℕ → ℕ → Vf → ℕ × State
 made cap slotCap n F = (F .reg, st cap slotCap (wordsOf (F .code)) (F .consts) (F .next) (max n (F .need)))
 
 root-met :
@@ -116,13 +116,13 @@ met-not (met e p) f = let z : _≡_ {A = ℕ} 0 1 = cc in absurd (omega arith)
 met-not {e} (refused n g h) f = let z : n ≡ e = cc in subst Lacks z h
 
 -- what is known of a table that the check accepts
-record Checked (ws : List ℕ) (params locals : ℕ) (dest : Dest) : Type 0 where
-  refs : RefsBelow (params + locals) (tree ws (nodeCount ws - 1))
-  layout : params + locals ≤ maxRegisters
-  low : DestLow dest (params + locals)
-  near : words (tree ws (nodeCount ws - 1)) ≤ far
+pub record Checked (ws : List ℕ) (params locals : ℕ) (dest : Dest) : Type 0 where
+  pub refs : RefsBelow (params + locals) (tree ws (nodeCount ws - 1))
+  pub layout : params + locals ≤ maxRegisters
+  pub low : DestLow dest (params + locals)
+  pub near : words (tree ws (nodeCount ws - 1)) ≤ far
 
-checked : (ws : List ℕ) (params locals : ℕ) (dest : Dest) → checkOf ws params locals dest ≡ 0 → Checked ws params locals dest
+pub checked : (ws : List ℕ) (params locals : ℕ) (dest : Dest) → checkOf ws params locals dest ≡ 0 → Checked ws params locals dest
 checked ws params locals dest h =
     let a = Table.accepted ws params locals dest h in
     let p = check-parts ws params locals dest h in
@@ -133,7 +133,7 @@ checked ws params locals dest h =
       near = omega (arith, words-size (tree ws (nodeCount ws - 1)), a .whole, a .few);
     }
 
-low-more : (dest : Dest) {m n : ℕ} → m ≤ n → DestLow dest m → DestLow dest n
+pub low-more : (dest : Dest) {m n : ℕ} → m ≤ n → DestLow dest m → DestLow dest n
 low-more None up h = tt
 low-more (Reg d) up h = omega arith
 
@@ -301,12 +301,12 @@ runs ws params locals dest cap slotCap ls c fits =
     )
 
 -- what is accepted is checked, and is the fragment
-record Known (ws : List ℕ) (params locals : ℕ) (dest : Dest) (cap slotCap r : ℕ) (s : State) : Type 0 where
-  check : checkOf ws params locals dest ≡ 0
-  is : made cap slotCap (tempBase (params + locals)) (whole (tree ws (nodeCount ws - 1)) dest (tempBase (params + locals))) ≡ (r, s)
-  fits : AllFit (whole (tree ws (nodeCount ws - 1)) dest (tempBase (params + locals)) .code)
+pub record Known (ws : List ℕ) (params locals : ℕ) (dest : Dest) (cap slotCap r : ℕ) (s : State) : Type 0 where
+  pub check : checkOf ws params locals dest ≡ 0
+  pub is : made cap slotCap (tempBase (params + locals)) (whole (tree ws (nodeCount ws - 1)) dest (tempBase (params + locals))) ≡ (r, s)
+  pub fits : AllFit (whole (tree ws (nodeCount ws - 1)) dest (tempBase (params + locals)) .code)
 
-known : (ws : List ℕ) (params locals : ℕ) (dest : Dest) (r : ℕ) (s : State) (a : Accepted ws params locals dest r s) → Known ws params locals dest (a .cap) (a .slotCap) r s
+pub known : (ws : List ℕ) (params locals : ℕ) (dest : Dest) (r : ℕ) (s : State) (a : Accepted ws params locals dest r s) → Known ws params locals dest (a .cap) (a .slotCap) r s
 unfolding compileOf
 known ws params locals dest r s a =
     let x = check-made (checkOf ws params locals dest) (a .is) in

@@ -10,6 +10,7 @@ use Rattle.faults.specs.Numbers.{noRegister, noSlot, noRoom}
 use Rattle.value.specs.Value.{Datum, kindOf, payloadOf, allWell, datums}
 use Rattle.ops.specs.Ops.{Result, is, fault}
 use Rattle.table.specs.Table.{tempBase, checkOf}
+use Rattle.table.specs.Tree.{Tree, leaf, unary, binary, ternary, Leaf, nil, yep, nope, int, float, ref}
 use Rattle.table.specs.declared.Dest.{Dest}
 use Rattle.table.specs.declared.Dest.the-variants.{None, Reg}
 use Rattle.effect.specs.Effect.{size}
@@ -121,6 +122,33 @@ pub record Promised (nodes : List ℕ) (params locals : ℕ) (words sks sps ks p
   pub agree :
       (dest : Dest) (r : ℕ) (s : State) → Accepted nodes params locals dest r s → words ≡ s .words → Lent s ks ps sks sps budget →
       Agrees dest (tempBase (params + locals)) r s ks ps res o
+
+-- ---- where the value of an accepted table stands
+
+-- without a destination: a Ref's own register, and for any other tree the first temporary
+abbrev pub leafHome : Leaf → ℕ → ℕ
+leafHome nil base = base
+leafHome yep base = base
+leafHome nope base = base
+leafHome (int z) base = base
+leafHome (float p) base = base
+leafHome (ref r) base = r
+
+abbrev pub homeOf : Tree → ℕ → ℕ
+homeOf (leaf l) base = leafHome l base
+homeOf (unary o a) base = base
+homeOf (binary o a b) base = base
+homeOf (ternary c a b) base = base
+
+abbrev pub registerOf : Dest → Tree → ℕ → ℕ
+registerOf None t base = homeOf t base
+registerOf (Reg d) t base = d
+
+-- the frame is at least the base, and has the register
+pub record Placed (dest : Dest) (t : Tree) (base r : ℕ) (s : State) : Type 0 where
+  pub frame : base ≤ s .frame
+  pub inside : r < s .frame
+  pub place : r ≡ registerOf dest t base
 
 -- ---- what a checked table can still be refused for: a register, a slot, or room for a word or a jump
 

@@ -1,16 +1,18 @@
 -- The starred samples of document 01 as one list: what the definitions give, and what 01 says, both written out as numbers. Assumes nothing.
-use mathlib.Core.Bool.{false}
+use mathlib.Core.Bool.{false, cond}
 use mathlib.Core.List.{List, [], _∷_, _++_}
-use Prim.Native.Nat.{ℕ, _+_, _-_, _*_, _^_}
+use Prim.Native.Nat.{ℕ, zero, suc, _+_, _-_, _*_, _^_}
+use lib.Dec.{eqb}
 use lib.ListN.{length, getD}
 use lib.IntN.{pos}
 use Rattle.value.specs.Value.{kindOf, payloadOf}
 use Rattle.ops.specs.Ops.{Result, is, fault}
 use Rattle.table.specs.Tree.{Tree, leaf, int, ref, binary, cmp, lt}
-use Rattle.table.specs.declared.Dest.the-variants.{None}
+use Rattle.table.specs.declared.Dest.the-variants.{None, Reg}
 use Rattle.insns.specs.declared.Made.{Made}
 use Rattle.insns.specs.declared.op.Op.{Op}
 use Rattle.insns.specs.declared.op.Three.the-variants as Three
+use Rattle.insns.specs.declared.op.Shift.the-variants as Shift
 use Rattle.insns.specs.declared.op.Slot.the-variants as Slot
 use Rattle.insns.specs.declared.op.Cmp.the-variants as Cmp
 use Rattle.insns.specs.Insns.{madeOf}
@@ -122,4 +124,74 @@ samples =
     ∷ (aimed 8388608 0, 8 ∷ [])
     -- 10: Minus of -2^63
     ∷ (valued (evaluateOf (node 3 (2 ^ 63) 0 1 ++ node 6 0 0 2) 0 0 [] []), 21 ∷ [])
+    ∷ []
+
+-- ---- each number of compile has a table: 1 to 7, in 01's words
+
+-- n nodes, each Not of the one before, over True: the last has depth n
+unfoldable pub nots : ℕ → List ℕ
+nots zero = []
+nots (suc n) = nots n ++ node (cond (eqb n 0) 1 7) 0 0 (suc n)
+
+-- a compile without a destination, by its parameters and its room for jumps, words and constants
+abbrev pub answered : List ℕ → ℕ → ℕ → ℕ → ℕ → List ℕ
+answered table params places cap slotCap = shown (compileOf table params 0 None places cap slotCap)
+
+abbrev pub refused : List (List ℕ × List ℕ)
+refused =
+    -- 1: table empty; not a multiple of 4 words
+    (answered [] 1 8 8 8, 1 ∷ [])
+    ∷ (answered (0 ∷ []) 1 8 8 8, 1 ∷ [])
+    -- 2: unknown kind, non-zero payload, missing child, wrong first, wrong depth, last node's first not 0
+    ∷ (answered (node 27 0 0 1) 1 8 8 8, 2 ∷ [])
+    ∷ (answered (node 0 1 0 1) 1 8 8 8, 2 ∷ [])
+    ∷ (answered (node 6 0 0 2) 1 8 8 8, 2 ∷ [])
+    ∷ (answered (node 0 0 1 1) 1 8 8 8, 2 ∷ [])
+    ∷ (answered (node 0 0 0 2) 1 8 8 8, 2 ∷ [])
+    ∷ (answered (node 0 0 0 1 ++ node 0 0 1 1) 1 8 8 8, 2 ∷ [])
+    -- 3: depth over 64
+    ∷ (answered (nots 65) 1 8 8 8, 3 ∷ [])
+    -- 4: Ref or destination not below the base
+    ∷ (answered (node 5 1 0 1) 1 8 8 8, 4 ∷ [])
+    ∷ (shown (compileOf (node 0 0 0 1) 1 0 (Reg 1) 8 8 8), 4 ∷ [])
+    -- 5: parameters plus locals, or an allocation, pass 65,535 registers
+    ∷ (answered (node 0 0 0 1) 65536 8 8 8, 5 ∷ [])
+    ∷ (answered (node 0 0 0 1) 65535 8 8 8, 5 ∷ [])
+    -- 6: no constant slot left
+    ∷ (answered (node 3 (2 ^ 37) 0 1) 1 8 8 0, 6 ∷ [])
+    -- 7: no room for a word, or for a jump
+    ∷ (answered (node 0 0 0 1) 1 8 0 8, 7 ∷ [])
+    ∷ (answered choice 2 0 8 8, 7 ∷ [])
+    -- 5 before 6 before 7: a literal asks for its register, then its slot, then its word
+    ∷ (answered (node 3 (2 ^ 37) 0 1) 65535 8 0 0, 5 ∷ [])
+    ∷ (answered (node 3 (2 ^ 37) 0 1) 1 8 0 0, 6 ∷ [])
+    ∷ []
+
+-- ---- the samples without a star, but for 4,096 nodes and 4,097
+
+-- the number alone
+abbrev pub numberOf : Res (ℕ × State) → List ℕ
+numberOf (done x) = 0 ∷ []
+numberOf (fail n) = n ∷ []
+
+-- a report: number, steps, position
+abbrev pub report : Out → List ℕ
+report (out r ks ps) = r .number ∷ r .steps ∷ r .position ∷ []
+
+abbrev pub unstarred : List (List ℕ × List ℕ)
+unstarred =
+    -- 11: Nil with base 65,534: accepted, frame 65,535; base 65,535: 5
+    (answered (node 0 0 0 1) 65534 8 8 8, 0 ∷ 65534 ∷ 65535 ∷ 0 ∷ wordOf (madeOf (Op.LoadImm40 65534 (record { raw = pos 1 }))) ∷ [])
+    ∷ (answered (node 0 0 0 1) 65535 8 8 8, 5 ∷ [])
+    -- 12: depth 64 accepted, 65 is 3
+    ∷ (numberOf (compileOf (nots 64) 1 0 None 8 64 8), 0 ∷ [])
+    ∷ (numberOf (compileOf (nots 65) 1 0 None 8 65 8), 3 ∷ [])
+    -- 13: a << 63 folds; a << 64 compiles in general form and faults 24, evaluated and run
+    ∷ (compiled 1 (withInt 11 63), 0 ∷ 1 ∷ 2 ∷ 0 ∷ wordOf (madeOf (Op.Shift Shift.Left 1 0 63)) ∷ [])
+    ∷ (compiled 1 (withInt 11 64), 0 ∷ 1 ∷ 2 ∷ 0 ∷ wordOf (madeOf (Op.LoadImm40 1 (record { raw = pos 256 }))) ∷ wordOf (madeOf (Op.Three Three.Lshift 1 0 1)) ∷ [])
+    ∷ (valued (evaluateOf (withInt 11 64) 1 0 (2 ∷ []) (7 ∷ [])), 24 ∷ [])
+    ∷ (ran (2 ∷ 0 ∷ []) (7 ∷ 0 ∷ []) (compileOf (withInt 11 64) 1 0 None 8 8 8), 24 ∷ 2 ∷ 64 ∷ [])
+    -- 14: a lone Ref: no words, no steps, budget 0 is enough
+    ∷ (answered (node 5 0 0 1) 1 0 0 0, 0 ∷ 0 ∷ 1 ∷ 0 ∷ [])
+    ∷ (report (runOf [] [] [] 0 0 (2 ∷ []) (7 ∷ [])), 0 ∷ 0 ∷ 0 ∷ [])
     ∷ []

@@ -4,7 +4,7 @@
 --     check-is         the front's number is the records' number
 --     evaluate-is      the front's answer is the records' answer
 --     same-number, same-answer     with room for the records, however many they are, both are the word table's
-use Prim.Native.Nat.{ℕ, zero, suc, _+_, _*_, _/_, _%_, _≤_, _<_}
+use Prim.Native.Nat.{ℕ, zero, suc, _+_, _*_, _/_, _%_, _≤_, _<_, min}
 use native.Mathlib.Omega.{arith}
 use mathlib.Core.Path.{_≡_, refl, sym, _∙_, ap}
 use mathlib.Core.Bool.{Bool, true, false, not}
@@ -19,8 +19,9 @@ use Rattle.table.specs.Table.{shapeFault, checkOf}
 use Rattle.table.specs.declared.Dest.{Dest}
 use Rattle.table.specs.declared.Dest.the-variants.{None}
 use Rattle.eval.specs.Evaluate.{unless, evaluateOf}
-use Rattle.records.specs.Records.{flat, roomFault, holding, flattened, checkNodes, evaluateNodes}
-use Rattle.records.specs.Copy.{none, orNone, copiedOf, put, filled, checkFront, evaluateFront}
+use Rattle.codegen.specs.Compile.{accepted, compileOf}
+use Rattle.records.specs.Records.{compileNodes, flat, roomFault, holding, flattened, checkNodes, evaluateNodes}
+use Rattle.records.specs.Copy.{none, orNone, copiedOf, put, filled, checkFront, evaluateFront, compileFront}
 use Rattle.records.specs.declared.Node.{Node}
 use Rattle.records.proofs.Laws.{length-filled, has-room, many, fits}
 
@@ -113,6 +114,14 @@ module _ (ds : List Node) (ws : List ℕ) (p l : ℕ) where
       by-fault zero e = ap (λ (us : List ℕ). evaluateOf us p l ks ps) (front-flat ds ws e)
       by-fault (suc f) e = refl
 
+  pub compile-is : (dest : Dest) (c k q : ℕ) → compileFront (flattened ds ws) (length ds) p l dest c k q ≡ compileNodes ds (length ws) p l dest c k q
+  unfolding compileFront compileNodes
+  compile-is dest c k q = rw (length-flattened ds ws) (by-fault (roomFault (length ds) (length ws)) refl)
+    where
+      by-fault : (f : ℕ) → roomFault (length ds) (length ws) ≡ f → accepted f (compileOf (take (4 * length ds) (flattened ds ws)) p l dest maxNodes c (min k q)) ≡ accepted f (compileOf (flat ds) p l dest maxNodes c (min k q))
+      by-fault zero e = ap (λ (us : List ℕ). compileOf us p l dest maxNodes c (min k q)) (front-flat ds ws e)
+      by-fault (suc f) e = refl
+
 -- ---- the word table's answers
 
 -- a table of too many records has too many nodes
@@ -143,4 +152,10 @@ module _ (ds : List Node) (words p l : ℕ) (room : length ds ≤ words / 4) whe
   unfolding evaluateNodes evaluateOf unless _or-else_
   same-answer ks ps = either maxNodes (length ds)
       (λ m. rw (sym (many (length ds) words m), too-many ds p l None m) refl)
+      (λ n. rw (sym (fits (length ds) words n room)) refl)
+
+  pub same-compile : (dest : Dest) (c k q : ℕ) → compileNodes ds words p l dest c k q ≡ compileOf (flat ds) p l dest maxNodes c (min k q)
+  unfolding compileNodes compileOf
+  same-compile dest c k q = either maxNodes (length ds)
+      (λ m. rw (sym (many (length ds) words m), too-many ds p l dest m) refl)
       (λ n. rw (sym (fits (length ds) words n room)) refl)

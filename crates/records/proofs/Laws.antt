@@ -18,8 +18,11 @@ use Rattle.table.specs.Table.{checkOf}
 use Rattle.table.specs.declared.Dest.{Dest}
 use Rattle.ops.specs.Ops.{Result, fault as faulted}
 use Rattle.eval.specs.Evaluate.{unless, evaluateOf}
+use Rattle.emit.specs.State.{fail}
+use Rattle.codegen.specs.Compile.{Compiles, compileOf}
+use Rattle.codegen.specs.declared.compile.Compiled.{Compiled}
 use Rattle.records.specs.Records.{roomFault}
-use Rattle.records.specs.Copy.{none, orNone, copiedOf, put, filled, checkFront, evaluateFront}
+use Rattle.records.specs.Copy.{none, orNone, copiedOf, put, filled, checkFront, evaluateFront, compileFront}
 use Rattle.records.specs.declared.Node.{Node}
 
 -- the words with one, two, three and four of record i's words stored
@@ -148,6 +151,10 @@ module _ (ws : List ℕ) (n : ℕ) {f : ℕ} (e : f ≡ roomFault n (length ws))
     unfolding evaluateFront unless
     evaluated p l ks ps h = rw (sym e ∙ z) h
 
+    pub compiled : (p l : ℕ) (d : Dest) (c k q : ℕ) {r : Compiled} {us vs ts : List ℕ} {x y w : ℕ} → Compiles r (compileOf (take (4 * n) ws) p l d maxNodes c (min k q)) us vs ts x y w → Compiles r (compileFront ws n p l d c k q) us vs ts x y w
+    unfolding compileFront
+    compiled p l d c k q h = rw (sym e ∙ z) h
+
   pub check-refused : (p l : ℕ) (d : Dest) → (f ≡ 0 → ⊥) → f ≡ checkFront ws n p l d
   unfolding checkFront
   check-refused p l d h = stop _ e h
@@ -157,4 +164,9 @@ unfolding evaluateFront unless
 evaluate-refused ws n p l ks ps zero e h = absurd (h refl)
 evaluate-refused ws n p l ks ps (suc f) e h = rw (sym e)
 
-pub ruleset fronts = (words-fit, front-count, front-in, checked, evaluated, check-refused, evaluate-refused, needs)
+pub compile-refused : (ws : List ℕ) (n p l : ℕ) (d : Dest) (c k q f : ℕ) {r : Compiled} {us vs ts : List ℕ} {x y w : ℕ} → f ≡ roomFault n (length ws) → (f ≡ 0 → ⊥) → Compiles r (fail f) us vs ts x y w → Compiles r (compileFront ws n p l d c k q) us vs ts x y w
+unfolding compileFront
+compile-refused ws n p l d c k q zero e h m = absurd (h refl)
+compile-refused ws n p l d c k q (suc f) e h m = rw (sym e) m
+
+pub ruleset fronts = (words-fit, front-count, front-in, checked, evaluated, check-refused, evaluate-refused, compiled, compile-refused, needs)

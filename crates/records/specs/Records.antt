@@ -1,6 +1,6 @@
 -- A table of node records, with the answers of the word table that has the same nodes. The caller lends room for its words.
 -- Assumes nothing: these are definitions.
-use Prim.Native.Nat.{ℕ, zero, suc, _*_, _/_}
+use Prim.Native.Nat.{ℕ, zero, suc, _*_, _/_, min}
 use mathlib.Core.List.{List, [], _∷_, _++_}
 use lib.Dec.{ltb}
 use lib.ListN.{length, drop}
@@ -11,6 +11,8 @@ use Rattle.table.specs.Table.{checkOf}
 use Rattle.table.specs.declared.Dest.{Dest}
 use Rattle.ops.specs.Ops.{Result}
 use Rattle.eval.specs.Evaluate.{unless, evaluateOf}
+use Rattle.emit.specs.State.{Res, State}
+use Rattle.codegen.specs.Compile.{accepted, compileOf}
 use Rattle.records.specs.declared.Node.{Node}
 
 -- the words of a table of records: kind, payload, first, depth
@@ -37,3 +39,7 @@ checkNodes ds words params locals dest = roomFault (length ds) words or-else che
 -- the answer of a table of records, with so many words lent
 unfoldable pub evaluateNodes : List Node → ℕ → ℕ → ℕ → List ℕ → List ℕ → Result
 evaluateNodes ds words params locals ks ps = unless (roomFault (length ds) words) (evaluateOf (flat ds) params locals ks ps)
+
+-- what a table of records compiles to, with so many words lent, and the room that a compile asks for
+unfoldable pub compileNodes : List Node → ℕ → ℕ → ℕ → Dest → ℕ → ℕ → ℕ → Res (ℕ × State)
+compileNodes ds words params locals dest c k p = accepted (roomFault (length ds) words) (compileOf (flat ds) params locals dest maxNodes c (min k p))

@@ -3,8 +3,10 @@
 ghost use mathlib.Core.Path.{_≡_};
 ghost use lib.ListN.{length};
 ghost use Rattle.ops.specs.Ops.{resultOf};
-ghost use Rattle.records.specs.Records.{roomFault, flattened, checkNodes, evaluateNodes};
-ghost use Rattle.records.specs.Copy.{copiedOf, put, checkFront, evaluateFront};
+ghost use Rattle.codegen.specs.Compile.{Compiles};
+ghost use Rattle.records.specs.Records.{roomFault, flattened, checkNodes, evaluateNodes, compileNodes};
+ghost use Rattle.records.specs.Copy.{copiedOf, put, checkFront, evaluateFront, compileFront};
+use codegen::compile::Compiled;
 use ops::Answer;
 use table::Dest;
 
@@ -92,6 +94,27 @@ fn evaluate_front(
     eval::evaluate(&words[..4 * n], params, locals, kinds, payloads)
 }
 
+// The compile of the first n records that the words hold, likewise.
+fn compile_front(
+    words: &mut [u64],
+    n: usize,
+    params: u64,
+    locals: u64,
+    dest: Dest,
+    code: &mut [u64],
+    kinds: &mut [u8],
+    payloads: &mut [u64],
+) -> Compiled
+    ensures { λ r. ⌜ (Compiles r (compileFront (now (words .entry)) n params locals dest (length (now (code .entry))) (length (now (kinds .entry))) (length (now (payloads .entry)))) (now (code .exit)) (now (kinds .exit)) (now (payloads .exit)) (length (now (code .entry))) (length (now (kinds .entry))) (length (now (payloads .entry))))
+        × (now (words .exit) ≡ now (words .entry)) ⌝ }
+{
+    let f = room_fault(n, words.len());
+    if f != faults::NONE {
+        return codegen::compile::refuse(f, code, kinds, payloads);
+    }
+    codegen::compile::compile(&words[..4 * n], params, locals, dest, code, kinds, payloads)
+}
+
 // The number of a table of records with its layout and its destination: what `table::check` gives for the same nodes as words. The caller
 // lends room for four words a record; 7 where that is too little.
 pub fn check_nodes(nodes: &[Node], words: &mut [u64], params: u64, locals: u64, dest: Dest) -> u8
@@ -117,4 +140,32 @@ pub fn evaluate_nodes(
 {
     flatten(nodes, words);
     evaluate_front(words, nodes.len(), params, locals, kinds, payloads)
+}
+
+// The compile of a table of records: what `codegen::compile` answers, and writes, for the same nodes as words. The caller lends room for
+// four words a record; 7 where that is too little.
+pub fn compile_nodes(
+    nodes: &[Node],
+    words: &mut [u64],
+    params: u64,
+    locals: u64,
+    dest: Dest,
+    code: &mut [u64],
+    kinds: &mut [u8],
+    payloads: &mut [u64],
+) -> Compiled
+    ensures { λ r. ⌜ (Compiles r (compileNodes (now (nodes .entry)) (length (now (words .entry))) params locals dest (length (now (code .entry))) (length (now (kinds .entry))) (length (now (payloads .entry)))) (now (code .exit)) (now (kinds .exit)) (now (payloads .exit)) (length (now (code .entry))) (length (now (kinds .entry))) (length (now (payloads .entry))))
+        × (now (words .exit) ≡ flattened (now (nodes .entry)) (now (words .entry))) ⌝ }
+{
+    flatten(nodes, words);
+    compile_front(
+        words,
+        nodes.len(),
+        params,
+        locals,
+        dest,
+        code,
+        kinds,
+        payloads,
+    )
 }

@@ -1,7 +1,6 @@
 -- `agree::compile_evaluate_and_run` meets its contract: what compiling left is what `evaluate_and_run` is lent; each way out is a law of `Entry`. Assumes nothing.
 use borrow.Author.Needs.{needs}
-use Rattle.codegen.proofs.Parts.{prefix}
-use Rattle.agree.proofs.Entry.{front-fits, accepted-whole, refused-whole}
+use Rattle.agree.proofs.Entry.{front-fits, front-count, accepted-whole, refused-whole}
 use Rattle.agree.proofs.compile_evaluate_and_run.Statement.{statement}
 use Rattle.agree.proofs.compile_evaluate_and_run.Tie as tie
 
@@ -21,7 +20,7 @@ compile-evaluate-and-run-spec =
     (λ c κs. search needs)
     (λ c. search needs)
     (λ c. search (front-fits, needs))
-    (λ c. search (prefix, front-fits, needs))
+    (λ c. search (front-count, front-fits, needs))
     (λ c κs. search needs)
     (λ c. search needs)
     (λ c κs. search needs)
