@@ -8,6 +8,7 @@ cd "$(dirname "$0")/.."
 archive=$(realpath "${2:-target/staticlib/libvosemaqe.a}")
 tests/c/run.sh "$archive"
 export VOSEMAQE_LIB=${archive%/*}
+mkdir -p bindings/rust/target
 (cd bindings/rust && cargo test --offline --locked --quiet --doc >target/doc.log 2>&1) || { cat bindings/rust/target/doc.log; exit 1; }
 echo "bindings: $(grep -o '[0-9]* passed' bindings/rust/target/doc.log) of the Rust crate's examples"
 tools/fuzz.sh "${1:-200000}" 1 5000
