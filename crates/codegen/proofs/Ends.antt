@@ -57,6 +57,14 @@ zeroing-done {old} {now} {from} {k} z h =
     let q : k ≡ length old = omega arith in
     sym (take-all k now h) ∙ z .front ∙ ap (λ (m : ℕ). take from old ++ replicate {A = ℕ} (m - from) 0) q
 
+pub zeroing-less : {old now : List ℕ} {from k : ℕ} → Zeroing old now from k → k < length now → length old - (k + 1) < length old - k
+zeroing-less z h = let b = z .len in omega arith
+
+pub zeroing-len : {old now : List ℕ} {from k : ℕ} → Zeroing old now from k → length now ≡ length old
+zeroing-len z = z .len
+
+pub ruleset zeroings = (zeroing-start, zeroing-more, zeroing-less, zeroing-len, zeroing-done)
+
 -- ---- the kind of a literal's constant
 
 pub slot-int : (t : List ℕ) (j : ℕ) {k : ℕ} → k ≡ kindAt t j → k ≡ 3 → 2 ≡ slotKind t j
@@ -90,6 +98,8 @@ module _ (v : Value) (room : ℕ) (s : State) {b : Bufs} {r : Ans} {dst : Dst} w
   pub root-to : {d : ℕ} → dst ≡ To d → Says b r (intoD v d room s) → Says b r (rootD v dst room s)
   unfolding rootD
   root-to e h = says-by (sym (ap (λ (d : Dst). rootD v d room s) e)) h
+
+pub ruleset roots = (root-ready, root-any, root-to)
 
 -- ---- what is left behind
 

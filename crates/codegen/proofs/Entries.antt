@@ -40,6 +40,8 @@ module _ (ws : List ℕ) (params locals : ℕ) where
   checked-dest D.None h = tt
   checked-dest (D.Reg r) h = let a = accepted-table ws params locals (D.Reg r) h .layout in let b = dest-below ws params locals r h in omega arith
 
+pub ruleset checked = (checked-root, checked-layout, checked-dest)
+
 -- ---- the slots are the front of the payloads
 
 pub smaller-right : {n : ℕ} (a b : ℕ) → n ≡ min a b → n ≤ b
