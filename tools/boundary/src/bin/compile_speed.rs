@@ -16,7 +16,7 @@ fn rust(h: &mut house::Oracle, fun: &house::ast::Function, j: &Job) {
     black_box(h.emit(&t, fun, None));
 }
 
-/// A lent set of buffers for each job, the same for all, or one jump list more.
+/// A lent set of buffers for each job, or one for all.
 struct Way { name: &'static str, lent: Vec<Made> }
 
 /// Prints ns a node of the Rust, then ns and ratio for each way of lending.
@@ -29,7 +29,7 @@ fn measure(name: &str, jobs: &[Job], rounds: u64) {
     let mut ways: [Way; 4] = [
         Way { name: "tight", lent: rooms(&|_, c| Room::new(c.words.len(), c.consts.len())) },
         Way { name: "4 words, 1 slot a node", lent: rooms(&|n, _| Room::new(4 * n, n)) },
-        Way { name: "for any table", lent: rooms(&|_, _| Room::new(4 * MAX_NODES, MAX_NODES)) },
+        Way { name: "for any table", lent: vec![Made::lend(Room::new(4 * MAX_NODES, MAX_NODES))] },
         Way { name: "tight, jumps lent", lent: rooms(&|n, c| Room { jumps: Some(n.div_ceil(2)), ..Room::new(c.words.len(), c.consts.len()) }) },
     ];
     // short turns, so that some of them are not interrupted
@@ -40,13 +40,13 @@ fn measure(name: &str, jobs: &[Job], rounds: u64) {
             let t = Instant::now();
             for _ in 0..repeat {
                 for k in 0..jobs.len() {
-                    if i == 0 { rust(&mut h, &fun, &jobs[k]) } else { ways[i - 1].lent[k].compile(black_box(&jobs[k])) }
+                    if i == 0 { rust(&mut h, &fun, &jobs[k]) } else { let l = &mut ways[i - 1].lent; let n = l.len(); l[k % n].compile(black_box(&jobs[k])) }
                 }
             }
             *b = b.min(t.elapsed().as_nanos() as f64 / (repeat * nodes) as f64);
         }
     }
-    for w in &ways { for (m, c) in w.lent.iter().zip(&made) { assert!(m.is(&Ok(c.clone())), "{name}, {}: another answer", w.name) } }
+    for w in &ways { for (m, c) in w.lent.iter().rev().zip(made.iter().rev()) { assert!(m.is(&Ok(c.clone())), "{name}, {}: another answer", w.name) } }
     let words: usize = made.iter().map(|c| c.words.len()).sum();
     print!("{name:<34} {:5.2} {:7.1}", words as f64 / nodes as f64, best[0]);
     for t in &best[1..] { print!(" {t:8.1} {:5.2}", t / best[0]) }
