@@ -1,0 +1,4 @@
+-- The laws that the proofs of `text` cite.
+pub mod Digits
+pub mod Exact
+pub mod Shapes

@@ -1,0 +1,4 @@
+-- What the contracts of `text` cite.
+pub mod Number
+pub mod Real
+pub mod Shape
