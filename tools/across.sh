@@ -39,7 +39,7 @@ one() { # EDIT
     cp -R "$root/crates" "$root/crates.txt" "$work/copy/"
     [ ! -d "$root/target" ] || cp -R "$root/target" "$work/copy/target"
     cd "$work/copy" || exit 1
-    for crate in rules agree; do
+    for crate in rules; do
         sed -i '/^pub mod Samples$/d' "crates/$crate/proofs/Lib.antt"
         rm -f "crates/$crate/proofs/Samples.antt"
     done
@@ -49,14 +49,14 @@ one() { # EDIT
         return
     fi
     began=$(date +%s)
-    rt check agree >log 2>&1
+    rt check claim >log 2>&1
     took=$(($(date +%s) - began))
-    below=$(grep 'NOT PROVED' log | grep -v '^rt: agree ' | head -n 1)
-    first=$(grep -m 1 -o 'crates/agree/proofs/[^ ]*: error: `[^`]*`' log)
+    below=$(grep 'NOT PROVED' log | grep -v '^rt: \(meaning\|claim\) ' | head -n 1)
+    first=$(grep -m 1 -o 'crates/\(meaning\|claim\)/proofs/[^ ]*: error: `[^`]*`' log)
     if [ -n "$below" ]; then
         echo "across $label: NOT REACHED: $below ($took s)"
-    elif grep -q '^rt: agree NOT PROVED' log && [ -n "$first" ]; then
-        echo "across $label: agree refuses it, first at ${first#crates/agree/} ($took s)"
+    elif grep -q '^rt: \(meaning\|claim\) NOT PROVED' log && [ -n "$first" ]; then
+        echo "across $label: the claim refuses it, first at ${first#crates/} ($took s)"
         refused=$((refused + 1))
     else
         echo "across $label: NOT REFUSED ($took s)"
@@ -67,5 +67,5 @@ if [ $# -eq 0 ]; then
     set -- $(cd "$root/tools/across" && ls ./*.edit | sed 's/\.edit$//; s/^\.\///')
 fi
 for label; do one "$root/tools/across/$label.edit"; done
-echo "across: $refused of $all refused by agree"
+echo "across: $refused of $all refused by the claim"
 [ "$refused" -eq "$all" ]

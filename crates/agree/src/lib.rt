@@ -10,7 +10,7 @@ ghost use Prim.Native.Nat.{_<_, _^_};
 ghost use lib.ListN.{length};
 ghost use Rattle.ops.specs.Ops.{resultOf};
 ghost use Rattle.machine.specs.Run.{out};
-ghost use Rattle.agree.specs.Claim.{Promised, Whole, Wide};
+ghost use Rattle.claim.specs.Claim.{Promised, Whole, Wide};
 
 // What a run reports, and what the tree gives.
 pub struct Both {

@@ -1,167 +1,24 @@
 // The library for C and Rust callers. Each function does what the routine of its name does and gives what that gives, as numbers: the number
 // of the answer is returned, results are left in cells. include/vosemaqe.h is the manual.
-use codegen::compile::Compiled;
-use decode::Decoded;
-use insns::Made;
-use ops::Answer;
-use patch::Patched;
-use table::Dest;
 ghost use mathlib.Core.Path.{_≡_};
 ghost use Prim.Native.Nat.{ℕ, min};
 ghost use lib.ListN.{length, replicate};
 ghost use Rattle.faults.specs.Limits.{maxNodes};
 ghost use Rattle.table.specs.Table.{checkOf};
-ghost use Rattle.ops.specs.Ops.{resultOf};
 ghost use Rattle.eval.specs.Evaluate.{evaluateOf};
 ghost use Rattle.codegen.specs.Compile.{compileOf};
 ghost use Rattle.machine.specs.Run.{out, ran, runOf, runPartOf};
 ghost use Rattle.decode.specs.Decode.{decodeOf};
 ghost use Rattle.patch.specs.Patch.{patchedNumber, patchOf};
 ghost use Rattle.parts.specs.Shapes.{encodeOf};
-ghost use Rattle.vosemaqe.specs.Boundary.{destOf, report, reportOf, Compiles, found, foundOf, shown, shownOf, coined, coinedOf};
-
-// What compiling leaves: the number, and the cells.
-struct Report {
-    number: u8,
-    words: u64,
-    slots: u64,
-    register: u64,
-    frame: u64,
-}
-
-// What evaluating leaves.
-struct Found {
-    number: u8,
-    kind: u64,
-    payload: u64,
-}
-
-// What decoding leaves.
-struct Shown {
-    number: u8,
-    opcode: u64,
-    a: u64,
-    b: u64,
-    c: u64,
-    d: u64,
-    e: u64,
-}
-
-// What encoding leaves.
-struct Coined {
-    number: u8,
-    word: u64,
-}
-
-// A destination: 0 is none, r + 1 the register r.
-fn dest_of(dest: u64) -> Dest
-    ensures { λ r. ⌜ r ≡ destOf dest ⌝ }
-{
-    if dest == 0 {
-        return Dest::None;
-    }
-    Dest::Reg(dest - 1)
-}
-
-fn report_of(c: Compiled) -> Report
-    ensures { λ r. ⌜ r ≡ reportOf c ⌝ }
-{
-    match c {
-        Compiled::Done(w, s, r, f) => Report {
-            number: faults::NONE,
-            words: w as u64,
-            slots: s as u64,
-            register: r as u64,
-            frame: f as u64,
-        },
-        Compiled::Refused(n) => Report {
-            number: n,
-            words: 0,
-            slots: 0,
-            register: 0,
-            frame: 0,
-        },
-    }
-}
-
-fn found_of(a: Answer) -> Found
-    ensures { λ r. ⌜ r ≡ foundOf (resultOf a) ⌝ }
-{
-    match a {
-        Answer::Is(v) => Found {
-            number: faults::NONE,
-            kind: value::value::kind_of(v) as u64,
-            payload: value::value::payload_of(v),
-        },
-        Answer::Fault(n) => Found {
-            number: n,
-            kind: 0,
-            payload: 0,
-        },
-    }
-}
-
-fn shown_of(d: Decoded) -> Shown
-    ensures { λ r. ⌜ r ≡ shownOf d ⌝ }
-{
-    match d {
-        Decoded::Is(i) => {
-            let p = parts::parts_of(i);
-            Shown {
-                number: faults::NONE,
-                opcode: p.opcode,
-                a: p.a,
-                b: p.b,
-                c: p.c,
-                d: p.d,
-                e: p.e,
-            }
-        }
-        Decoded::Bad => Shown {
-            number: faults::UNDECODED,
-            opcode: 0,
-            a: 0,
-            b: 0,
-            c: 0,
-            d: 0,
-            e: 0,
-        },
-    }
-}
-
-fn coined_of(m: Made) -> Coined
-    ensures { λ r. ⌜ r ≡ coinedOf m ⌝ }
-{
-    match m {
-        Made::Fits(w) => Coined {
-            number: faults::NONE,
-            word: w.bits,
-        },
-        Made::Refused => Coined {
-            number: faults::NO_FIT,
-            word: 0,
-        },
-    }
-}
-
-fn patched_number(p: Patched) -> u8
-    ensures { λ r. ⌜ r ≡ patchedNumber p ⌝ }
-{
-    match p {
-        Patched::Done => faults::NONE,
-        Patched::NoWord => faults::NO_WORD,
-        Patched::Undecoded => faults::UNDECODED,
-        Patched::NotBranch => faults::NOT_BRANCH,
-        Patched::TooFar => faults::TOO_FAR,
-    }
-}
+ghost use Rattle.cells.specs.Boundary.{destOf, report, Compiles, found, foundOf, shown, shownOf, coined, coinedOf};
 
 // The number of a table with its layout and its destination.
 #[no_mangle]
 pub extern "C" fn vosemaqe_check(nodes: &[u64], params: u64, locals: u64, dest: u64) -> u8
     ensures { λ r. ⌜ r ≡ checkOf (now (nodes .entry)) params locals (destOf dest) ⌝ }
 {
-    table::check(nodes, params, locals, dest_of(dest))
+    table::check(nodes, params, locals, cells::dest_of(dest))
 }
 
 // Compiles a node table; a jump list with room for every accepted table comes with it.
@@ -185,12 +42,12 @@ pub extern "C" fn vosemaqe_compile(
         nodes,
         params,
         locals,
-        dest_of(dest),
+        cells::dest_of(dest),
         code,
         slot_kinds,
         slot_payloads,
     );
-    let r = report_of(c);
+    let r = cells::report_of(c);
     *words = r.words;
     *slots = r.slots;
     *reg = r.register;
@@ -221,13 +78,13 @@ pub extern "C" fn vosemaqe_compile_with(
         nodes,
         params,
         locals,
-        dest_of(dest),
+        cells::dest_of(dest),
         code,
         slot_kinds,
         slot_payloads,
         jumps,
     );
-    let r = report_of(c);
+    let r = cells::report_of(c);
     *words = r.words;
     *slots = r.slots;
     *reg = r.register;
@@ -249,7 +106,7 @@ pub extern "C" fn vosemaqe_evaluate(
     ensures { λ r. ⌜ found r (now (kind .exit)) (now (payload .exit)) ≡ foundOf (evaluateOf (now (nodes .entry)) params locals (now (kinds .entry)) (now (payloads .entry))) ⌝ }
 {
     let a = eval::evaluate(nodes, params, locals, kinds, payloads);
-    let f = found_of(a);
+    let f = cells::found_of(a);
     *kind = f.kind;
     *payload = f.payload;
     f.number
@@ -328,7 +185,7 @@ pub extern "C" fn vosemaqe_decode(
 ) -> u8
     ensures { λ r. ⌜ shown r (now (opcode .exit)) (now (a .exit)) (now (b .exit)) (now (c .exit)) (now (d .exit)) (now (e .exit)) ≡ shownOf (decodeOf word) ⌝ }
 {
-    let s = shown_of(decode::decode(word));
+    let s = cells::shown_of(decode::decode(word));
     *opcode = s.opcode;
     *a = s.a;
     *b = s.b;
@@ -351,7 +208,7 @@ pub extern "C" fn vosemaqe_encode(
 ) -> u8
     ensures { λ r. ⌜ coined r (now (word .exit)) ≡ coinedOf (encodeOf opcode a b c d e) ⌝ }
 {
-    let m = coined_of(parts::encode(opcode, a, b, c, d, e));
+    let m = cells::coined_of(parts::encode(opcode, a, b, c, d, e));
     *word = m.word;
     m.number
 }
@@ -362,5 +219,5 @@ pub extern "C" fn vosemaqe_patch(words: &mut [u64], at: usize, target: u64) -> u
     ensures { λ r. ⌜ (r ≡ patchedNumber (patchOf (now (words .entry)) at target .answer)) × (now (words .exit) ≡ patchOf (now (words .entry)) at target .words) ⌝ }
 {
     let p = patch::patch(words, at, target);
-    patched_number(p)
+    cells::patched_number(p)
 }

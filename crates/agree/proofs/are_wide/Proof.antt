@@ -3,7 +3,7 @@ use Prim.Native.Nat.{_-_}
 use lib.ListN.{length}
 use native.Mathlib.Omega.{arith}
 use borrow.Author.Needs.{needs}
-use Rattle.agree.proofs.Entry.{Seen, seen-none, seen-more, seen-all}
+use Rattle.claim.proofs.Entry.{Seen, seen-none, seen-more, seen-all}
 use Rattle.agree.proofs.are_wide.Statement.{statement}
 use Rattle.agree.proofs.are_wide.Tie as tie
 

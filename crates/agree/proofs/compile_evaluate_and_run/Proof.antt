@@ -1,6 +1,6 @@
 -- `agree::compile_evaluate_and_run` meets its contract: what compiling left is what `evaluate_and_run` is lent; each way out is a law of `Entry`. Assumes nothing.
 use borrow.Author.Needs.{needs}
-use Rattle.agree.proofs.Entry.{front-fits, front-count, accepted-whole, refused-whole}
+use Rattle.claim.proofs.Entry.{front-fits, front-count, accepted-whole, refused-whole}
 use Rattle.agree.proofs.compile_evaluate_and_run.Statement.{statement}
 use Rattle.agree.proofs.compile_evaluate_and_run.Tie as tie
 

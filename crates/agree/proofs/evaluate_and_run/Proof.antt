@@ -1,6 +1,6 @@
 -- `agree::evaluate_and_run` meets its contract: its two calls are equal to the definitions that the theorem speaks of.
 use borrow.Author.Needs.{needs}
-use Rattle.agree.proofs.Theorem.{promised}
+use Rattle.claim.proofs.Theorem.{promised}
 use Rattle.agree.proofs.evaluate_and_run.Statement.{statement}
 use Rattle.agree.proofs.evaluate_and_run.Tie as tie
 

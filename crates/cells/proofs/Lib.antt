@@ -1,0 +1,2 @@
+-- What the proofs of the C boundary share.
+pub mod Laws

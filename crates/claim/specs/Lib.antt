@@ -1,0 +1,2 @@
+-- What is claimed of compiled tables and their runs.
+pub mod Claim

@@ -1,0 +1,2 @@
+-- The samples of document 01 as lists.
+pub mod Samples

@@ -1,0 +1,1 @@
+// The samples of document 01, computed from the definitions: no code.
