@@ -1,7 +1,7 @@
 #!/bin/sh
-# Shortcuts made in a definition and in its code alike, so that the crate they stand in still proves them: agree itself must refuse each.
+# Shortcuts made in a definition and in its code alike, so that the crate they stand in still proves them: the claim must refuse each.
 # tools/across.sh [LABEL..]: the edits under tools/across/, each in a copy of the repository; one line for each, then a count.
-# The computed samples of rules and agree are left out of the copy. They would refuse each edit first; what is asked is that the theorem does.
+# The computed samples of rules are left out of the copy. They would refuse each edit first; what is asked is that the theorem does.
 set -u
 root=$(cd "$(dirname "$0")/.." && pwd)
 work=$(mktemp -d)

@@ -198,7 +198,7 @@ pub fn compile(
 ) -> Compiled
     ensures { λ q. ⌜ Compiles q (compileOf (now (nodes .entry)) params locals dest maxNodes (length (now (code .entry))) (min (length (now (kinds .entry))) (length (now (payloads .entry))))) (now (code .exit)) (now (kinds .exit)) (now (payloads .exit)) (length (now (code .entry))) (length (now (kinds .entry))) (length (now (payloads .entry))) ⌝ }
 {
-    let f = table::check(nodes, params, locals, dest);
+    let f = checks::check(nodes, params, locals, dest);
     if f != faults::NONE {
         return refuse(f, code, kinds, payloads);
     }
@@ -233,7 +233,7 @@ pub fn compile_with(
     ensures { λ q. ⌜ Compiles q (compileOf (now (nodes .entry)) params locals dest (length (now (jumps .entry))) (length (now (code .entry))) (min (length (now (kinds .entry))) (length (now (payloads .entry))))) (now (code .exit)) (now (kinds .exit)) (now (payloads .exit)) (length (now (code .entry))) (length (now (kinds .entry))) (length (now (payloads .entry))) ⌝ }
     ensures { λ _. ⌜ now (jumps .exit) ≡ replicate {A = ℕ} (length (now (jumps .entry))) 0 ⌝ }
 {
-    let f = table::check(nodes, params, locals, dest);
+    let f = checks::check(nodes, params, locals, dest);
     if f != faults::NONE {
         zero_from(jumps, 0);
         return refuse(f, code, kinds, payloads);

@@ -425,7 +425,7 @@ fn refuse(n: u8, nodes: &[u64], marks: &[u64], h: Head) {
 // The check of the table with the first and depth that were given.
 fn number_of(nodes: &mut [u64], marks: &[u64], h: Head) -> u8 {
     put_given(nodes, marks);
-    table::check(nodes, h.params, locals_of(h), dest_of(h.dest))
+    checks::check(nodes, h.params, locals_of(h), dest_of(h.dest))
 }
 
 // All of an expression: the table is completed; what was given is put in place; a refusal says where, by the completed table.

@@ -271,7 +271,7 @@ fn shorter(a: usize, b: usize) -> usize
 pub fn evaluate(nodes: &[u64], params: u64, locals: u64, kinds: &[u8], payloads: &[u64]) -> Answer
     ensures { λ r. ⌜ resultOf r ≡ evaluateOf (now (nodes .entry)) params locals (now (kinds .entry)) (now (payloads .entry)) ⌝ }
 {
-    let n = table::check(nodes, params, locals, Dest::None);
+    let n = checks::check(nodes, params, locals, Dest::None);
     if n != faults::NONE {
         return Answer::Fault(n);
     }

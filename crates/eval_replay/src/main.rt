@@ -53,7 +53,7 @@ fn replay(words: &mut [u64], kinds: &mut [u8], payloads: &mut [u64]) {
     let w = within(n, words.len());
     let k = within(nk, kinds.len());
     let p = within(np, payloads.len());
-    wire::write_word(table::check(&words[..w], params, locals, dest_of(dest)) as u64);
+    wire::write_word(checks::check(&words[..w], params, locals, dest_of(dest)) as u64);
     write_answer(eval::evaluate(&words[..w], params, locals, &kinds[..k], &payloads[..p]));
 }
 

@@ -73,7 +73,7 @@ fn check_front(words: &mut [u64], n: usize, params: u64, locals: u64, dest: Dest
     if f != faults::NONE {
         return f;
     }
-    table::check(&words[..4 * n], params, locals, dest)
+    checks::check(&words[..4 * n], params, locals, dest)
 }
 
 // The evaluation of the first n records that the words hold, likewise.
@@ -115,7 +115,7 @@ fn compile_front(
     codegen::compile::compile(&words[..4 * n], params, locals, dest, code, kinds, payloads)
 }
 
-// The number of a table of records with its layout and its destination: what `table::check` gives for the same nodes as words. The caller
+// The number of a table of records with its layout and its destination: what `checks::check` gives for the same nodes as words. The caller
 // lends room for four words a record; 7 where that is too little.
 pub fn check_nodes(nodes: &[Node], words: &mut [u64], params: u64, locals: u64, dest: Dest) -> u8
     ensures { λ r. ⌜ (r ≡ checkNodes (now (nodes .entry)) (length (now (words .entry))) params locals dest)

@@ -18,7 +18,7 @@ ghost use Rattle.cells.specs.Boundary.{destOf, report, Compiles, found, foundOf
 pub extern "C" fn vosemaqe_check(nodes: &[u64], params: u64, locals: u64, dest: u64) -> u8
     ensures { λ r. ⌜ r ≡ checkOf (now (nodes .entry)) params locals (destOf dest) ⌝ }
 {
-    table::check(nodes, params, locals, cells::dest_of(dest))
+    checks::check(nodes, params, locals, cells::dest_of(dest))
 }
 
 // Compiles a node table; a jump list with room for every accepted table comes with it.

@@ -1,9 +1,9 @@
--- `table::shape_fault` meets its contract: a chain of tests. Assumes nothing.
+-- `checks::shape_fault` meets its contract: a chain of tests. Assumes nothing.
 use Rattle.faults.proofs.Faults.{tests}
 use Rattle.faults.specs.Faults.{fault, _or-else_}
 use Rattle.table.specs.Table.{shapeFault}
-use Rattle.table.proofs.shape_fault.Statement.{statement}
-use Rattle.table.proofs.shape_fault.Tie as tie
+use Rattle.checks.proofs.shape_fault.Statement.{statement}
+use Rattle.checks.proofs.shape_fault.Tie as tie
 
 pub shape-fault-spec : {M : Type 1} → statement M
 unfolding shapeFault fault _or-else_

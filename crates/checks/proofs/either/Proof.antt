@@ -1,4 +1,4 @@
--- `table::either` meets its contract: by the two tests. Assumes nothing.
+-- `checks::either` meets its contract: by the two tests. Assumes nothing.
 use mathlib.Core.Path.{_≡_}
 use mathlib.Core.Bool.{Bool, true, false}
 use Prim.Native.Nat.{ℕ, _<_}
@@ -6,8 +6,8 @@ use native.Mathlib.Omega.{arith}
 use borrow.Author.Needs.{needs}
 use Rattle.faults.specs.Faults.{fault, _or-else_}
 use Rattle.faults.proofs.Faults.{some-left}
-use Rattle.table.proofs.either.Statement.{statement}
-use Rattle.table.proofs.either.Tie as tie
+use Rattle.checks.proofs.either.Statement.{statement}
+use Rattle.checks.proofs.either.Tie as tie
 
 module _ {a : Bool} (b : Bool) (n m : ℕ) where
   one : a ≡ true → 0 < n → n ≡ fault a n or-else fault b m

@@ -1,8 +1,8 @@
--- `table::dest_fault` meets its contract: each return is a law of the destination. Assumes nothing.
+-- `checks::dest_fault` meets its contract: each return is a law of the destination. Assumes nothing.
 use borrow.Author.Needs.{needs}
 use Rattle.table.proofs.Parts.{parts}
-use Rattle.table.proofs.dest_fault.Statement.{statement}
-use Rattle.table.proofs.dest_fault.Tie as tie
+use Rattle.checks.proofs.dest_fault.Statement.{statement}
+use Rattle.checks.proofs.dest_fault.Tie as tie
 
 ruleset laws = (parts, needs)
 

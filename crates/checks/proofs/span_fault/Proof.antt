@@ -1,8 +1,8 @@
--- `table::span_fault` meets its contract: each return is a law of the span. Assumes nothing.
+-- `checks::span_fault` meets its contract: each return is a law of the span. Assumes nothing.
 use borrow.Author.Needs.{needs}
 use Rattle.table.proofs.Parts.{parts}
-use Rattle.table.proofs.span_fault.Statement.{statement}
-use Rattle.table.proofs.span_fault.Tie as tie
+use Rattle.checks.proofs.span_fault.Statement.{statement}
+use Rattle.checks.proofs.span_fault.Tie as tie
 
 ruleset laws = (parts, needs)
 
