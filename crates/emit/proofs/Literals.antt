@@ -15,7 +15,7 @@ use Rattle.table.specs.Table.{kindAt, payloadAt, Inner}
 use Rattle.table.specs.Tree.{int, Tree, leaf, Kind, leafKind, unaryKind, binaryKind, ternaryKind, noKind, kindOf, tree}
 use Rattle.table.proofs.Arities.{at-kind}
 use Rattle.table.proofs.Trees.{View, is-leaf, is-unary, is-binary, is-ternary, view, leaf-at}
-use Rattle.insns.proofs.Sign.{back}
+use Rattle.bits.proofs.Sign.{back}
 use Rattle.emit.specs.declared.fold.Lit.{Lit}
 use Rattle.emit.specs.declared.fold.Lit.the-variants.{Is, Not}
 use Rattle.emit.specs.declared.fold.Imm.{Imm}

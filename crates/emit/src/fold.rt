@@ -114,7 +114,7 @@ const FIXNUM: u64 = 2305843009213693952;
 pub fn within(z: i64, n: u64) -> bool
     ensures { λ r. ⌜ r ≡ ltb (mag z) n ⌝ }
 {
-    insns::fields::magnitude(z) < n
+    bits::magnitude(z) < n
 }
 
 // The Int literal at node i.

@@ -3,11 +3,12 @@
 use crate::Insn;
 use crate::Made;
 use crate::op::Imm40;
+use bits::is_raw;
+use bits::signed_bits;
 ghost use mathlib.Core.Path.{_≡_};
 ghost use mathlib.Core.List.{[], _∷_};
 ghost use Prim.Native.Nat.{_*_, _≤_, _^_};
-ghost use lib.Signed.{mag};
-ghost use Rattle.insns.specs.Fields.{make, twos, rawBits, isRaw};
+ghost use Rattle.insns.specs.Fields.{make, rawBits};
 
 // The word of five fields, each a size and its bits, or Refused.
 pub fn make5(
@@ -86,47 +87,7 @@ pub fn make0(op: u8) -> Made
     make5(op, 1, 0, 1, 0, 1, 0, 1, 0, 1, 0)
 }
 
-// n for z = n, and for z = -(n + 1): a signed field of 2 * h numbers holds z exactly where this is below h.
-pub fn magnitude(z: i64) -> u64
-    ensures { λ r. ⌜ r ≡ mag z ⌝ }
-{
-    if z < 0 {
-        return (!z) as u64;
-    }
-    z as u64
-}
-
-// The bits of z in a field of 2 * half numbers, or 2 * half where z does not fit.
-pub fn signed_bits(z: i64, half: u64) -> u64
-    requires { ⌜ half ≤ 2 ^ 40 ⌝ }
-    ensures { λ r. ⌜ r ≡ twos half z ⌝ }
-{
-    let n = magnitude(z);
-    if half <= n {
-        return 2 * half;
-    }
-    if z < 0 {
-        return 2 * half - 1 - n;
-    }
-    n
-}
-
-// Whether the bits of a 40-bit immediate are the raw bits of a value.
-pub fn is_raw(n: u64) -> bool
-    ensures { λ r. ⌜ r ≡ isRaw n ⌝ }
-{
-    if n % 4 == 0 {
-        return true;
-    }
-    if n == 1 {
-        return true;
-    }
-    if n == 5 {
-        return true;
-    }
-    n == 9
-}
-
+// The bits of a 40-bit immediate where they are the raw bits of a value, else a number past the field.
 pub fn raw_bits(imm: Imm40) -> u64
     ensures { λ r. ⌜ r ≡ rawBits (imm .raw) ⌝ }
 {

@@ -1,10 +1,10 @@
 // One step: the word at a position is decoded, and its effect carried out.
+use bits::magnitude;
 use decode::Decoded;
 use decode::decode;
 use effect::Effect;
 use effect::effect_of;
 use effect::room;
-use insns::fields::magnitude;
 use insns::op::Disp;
 use ops::Answer;
 use value::value::Value;

@@ -10,7 +10,7 @@ use lib.IntN.{ℤ}
 use mir.Syntax.{Width, w16, w32, w64}
 use mir.Val.{SFits, hbits, toZ, ofZ}
 use mir.Facts.{toZ-ofZ}
-use Rattle.insns.proofs.Sign.{widened}
+use Rattle.bits.proofs.Sign.{widened}
 use Rattle.insns.proofs.Table.{and-true, past}
 use Rattle.insns.specs.Fields.{make, wordIf, twos, rawBits}
 use Rattle.insns.specs.Insns.{formAt}

@@ -17,7 +17,7 @@ use Rattle.insns.specs.declared.Insn.{Insn}
 use Rattle.insns.specs.declared.op.Bare.{Bare}
 use Rattle.insns.specs.declared.op.Form.{Form}
 use Rattle.insns.specs.declared.op.Op.{Op}
-use Rattle.insns.proofs.Sign.{back}
+use Rattle.bits.proofs.Sign.{back}
 use Rattle.insns.proofs.Table.{form-op, op-form}
 use Rattle.decode.specs.Decode.{decodeOf}
 use Rattle.decode.specs.declared.Decoded.{Decoded}

@@ -1,5 +1,6 @@
 // An instruction as numbers, an opcode and five operands, and from such numbers to a word. A signed operand is the two's complement pattern of
 // 64 bits; an operand that a form does not have is 0.
+use bits::signed_bits;
 use form::form;
 use insns::Insn;
 use insns::Made;
@@ -18,7 +19,6 @@ use insns::encode::two_op;
 use insns::encode::wide_op;
 use insns::fields::make5;
 use insns::fields::raw_bits;
-use insns::fields::signed_bits;
 use insns::op::Disp;
 use insns::op::Form;
 use insns::op::Imm16;

@@ -15,7 +15,7 @@ use mir.Syntax.{w32, w64}
 use mir.Val.{SFits, toZ, ofZ}
 use mir.Facts.{toZ-ofZ}
 use mir.ValLaws.{toZ-pos}
-use Rattle.insns.proofs.Sign.{back}
+use Rattle.bits.proofs.Sign.{back}
 use Rattle.insns.specs.Insns.{madeOf}
 use Rattle.insns.specs.declared.Made.{Made}
 use Rattle.insns.specs.declared.op.Disp.{Disp}

@@ -1,9 +1,9 @@
 // Aiming a branch word at a target.
+use bits::magnitude;
 use decode::Decoded;
 use decode::decode;
 use insns::Made;
 use insns::encode::encode;
-use insns::fields::magnitude;
 use insns::op::Cmp;
 use insns::op::Disp;
 use insns::op::Imm16;

@@ -1,9 +1,9 @@
 // Words of the worked examples, constructed, decoded and patched, and what is refused.
+use bits::magnitude;
 use decode::Decoded;
 use insns::Insn;
 use insns::Made;
 use insns::encode::arith_op;
-use insns::fields::magnitude;
 use insns::op::Disp;
 use insns::op::Imm16;
 use insns::op::Op;

@@ -1,4 +1,5 @@
 // Replays words: operands to a constructor, words to `decode`, branches to `patch`. Writes the answers; tools/oracle/README.md has the layout.
+use bits::magnitude;
 use decode::Decoded;
 use insns::Insn;
 use insns::Made;
@@ -15,7 +16,6 @@ use insns::encode::slot_op;
 use insns::encode::three_op;
 use insns::encode::two_op;
 use insns::encode::wide_op;
-use insns::fields::magnitude;
 use insns::op::Disp;
 use insns::op::Imm16;
 use insns::op::Imm40;

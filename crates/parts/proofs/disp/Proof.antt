@@ -1,6 +1,6 @@
 -- `disp` is the pattern of a displacement. Assumes nothing.
 use borrow.Author.Needs.{needs}
-use Rattle.insns.proofs.Sign.{widens}
+use Rattle.bits.proofs.Sign.{widens}
 use Rattle.parts.proofs.Laws.{pattern-of}
 use Rattle.parts.proofs.disp.Statement.{statement}
 use Rattle.parts.proofs.disp.Tie as tie

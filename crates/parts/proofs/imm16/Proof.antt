@@ -1,6 +1,6 @@
 -- `imm16` is the pattern of a 16-bit literal. Assumes nothing.
 use borrow.Author.Needs.{needs}
-use Rattle.insns.proofs.Sign.{widens}
+use Rattle.bits.proofs.Sign.{widens}
 use Rattle.parts.proofs.Laws.{pattern-of}
 use Rattle.parts.proofs.imm16.Statement.{statement}
 use Rattle.parts.proofs.imm16.Tie as tie

@@ -1,6 +1,6 @@
 -- `samples::literal` is safe: a literal fits an i64. Assumes nothing.
 use borrow.Author.Needs.{needs}
-use Rattle.insns.proofs.Sign.{widens}
+use Rattle.bits.proofs.Sign.{widens}
 use Rattle.samples.proofs.literal.Statement.{statement}
 use Rattle.samples.proofs.literal.Tie as tie
 

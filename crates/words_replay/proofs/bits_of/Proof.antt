@@ -1,6 +1,6 @@
 -- `words_replay::bits_of` is safe: a literal and a displacement fit an i64. Assumes nothing.
 use borrow.Author.Needs.{needs}
-use Rattle.insns.proofs.Sign.{widens}
+use Rattle.bits.proofs.Sign.{widens}
 use Rattle.words_replay.proofs.bits_of.Statement.{statement}
 use Rattle.words_replay.proofs.bits_of.Tie as tie
 

@@ -1,11 +1,11 @@
--- `fields::is_raw` meets its contract. Assumes nothing.
+-- `is_raw` meets its contract. Assumes nothing.
 use mathlib.Core.Path.{_≡_}
 use Prim.Native.Nat.{ℕ, _%_}
 use lib.Dec.{eqb}
-use Rattle.insns.specs.Fields.{isRaw}
+use Rattle.bits.specs.Bits.{isRaw}
 use borrow.Author.Tests.{eq-eqb, ne-eqb}
-use Rattle.insns.proofs.fields.is_raw.Statement.{statement}
-use Rattle.insns.proofs.fields.is_raw.Tie as tie
+use Rattle.bits.proofs.is_raw.Statement.{statement}
+use Rattle.bits.proofs.is_raw.Tie as tie
 
 -- stated of a variable: at the need's own goal `simp` unfolds past its limit of steps
 last : (n : ℕ) → (n % 4 ≡ 0 → ⊥) → (n ≡ 1 → ⊥) → (n ≡ 5 → ⊥) → eqb n 9 ≡ isRaw n

@@ -12,7 +12,7 @@ use mir.Val.{SFits, hbits, toZ, ofZ}
 use mir.Facts.{toZ-ofZ, sfits-widen}
 use mir.ValLaws.{toZ-pos, toZ-neg}
 use native.Mathlib.Nat.{lt-of-lt-of-le}
-use Rattle.insns.specs.Fields.{twos}
+use Rattle.bits.specs.Bits.{twos}
 
 -- the test `z < 0`, as a branch leaves it
 pub neg-test : {z : ℤ} {t : Bool} → SFits w64 z → ltZ (toZ w64 (ofZ w64 z)) (pos 0) ≡ t → ltZ z (pos 0) ≡ t

@@ -1,7 +1,7 @@
--- `fields::magnitude` meets its contract. Assumes nothing.
-use Rattle.insns.proofs.Sign.{neg-test, flipped, kept}
-use Rattle.insns.proofs.fields.magnitude.Statement.{statement}
-use Rattle.insns.proofs.fields.magnitude.Tie as tie
+-- `magnitude` meets its contract. Assumes nothing.
+use Rattle.bits.proofs.Sign.{neg-test, flipped, kept}
+use Rattle.bits.proofs.magnitude.Statement.{statement}
+use Rattle.bits.proofs.magnitude.Tie as tie
 use mathlib.Core.Path.{_≡_}
 use native.Mathlib.Omega.{arith}
 use lib.IntN.{pos}

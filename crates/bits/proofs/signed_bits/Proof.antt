@@ -1,13 +1,13 @@
--- `fields::signed_bits` meets its contract. Assumes nothing.
+-- `signed_bits` meets its contract. Assumes nothing.
 use mathlib.Core.Path.{_≡_, sym, ap, _∙_}
 use Prim.Native.Nat.{_≤_, _<_}
 use borrow.Author.Needs.{needs}
 use native.Mathlib.Omega.{arith}
 use lib.Signed.{mag}
 use mir.Facts.{toZ-ofZ}
-use Rattle.insns.proofs.Sign.{neg-test, twos-far, twos-neg, twos-pos}
-use Rattle.insns.proofs.fields.signed_bits.Statement.{statement}
-use Rattle.insns.proofs.fields.signed_bits.Tie as tie
+use Rattle.bits.proofs.Sign.{neg-test, twos-far, twos-neg, twos-pos}
+use Rattle.bits.proofs.signed_bits.Statement.{statement}
+use Rattle.bits.proofs.signed_bits.Tie as tie
 
 -- a signed argument is passed as its bits, which the callee reads back
 is-mag : (c : tie.After-magnitude) → c .magnitude .result ≡ mag (c .before .args .z)

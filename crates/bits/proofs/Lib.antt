@@ -1,0 +1,2 @@
+-- Signed numbers and their bits.
+pub mod Sign

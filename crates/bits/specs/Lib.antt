@@ -1,0 +1,2 @@
+-- What the contracts of an operand's bits cite.
+pub mod Bits
