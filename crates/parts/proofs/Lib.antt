@@ -1,3 +1,2 @@
--- The laws that the proofs of `parts` cite, and the round trip.
+-- The laws that the proofs of `parts` cite.
 pub mod Laws
-pub mod RoundTrip

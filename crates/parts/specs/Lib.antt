@@ -1,3 +1,2 @@
 -- What the contracts of an instruction's numbers cite.
 pub mod Parts
-pub mod Shapes

@@ -10,7 +10,7 @@ ghost use Rattle.codegen.specs.Compile.{compileOf};
 ghost use Rattle.machine.specs.Run.{out, ran, runOf, runPartOf};
 ghost use Rattle.decode.specs.Decode.{decodeOf};
 ghost use Rattle.patch.specs.Patch.{patchedNumber, patchOf};
-ghost use Rattle.parts.specs.Shapes.{encodeOf};
+ghost use Rattle.shapes.specs.Shapes.{encodeOf};
 ghost use Rattle.cells.specs.Boundary.{destOf, report, Compiles, found, foundOf, shown, shownOf, coined, coinedOf};
 
 // The number of a table with its layout and its destination.
@@ -208,7 +208,7 @@ pub extern "C" fn vosemaqe_encode(
 ) -> u8
     ensures { λ r. ⌜ coined r (now (word .exit)) ≡ coinedOf (encodeOf opcode a b c d e) ⌝ }
 {
-    let m = cells::coined_of(parts::encode(opcode, a, b, c, d, e));
+    let m = cells::coined_of(shapes::encode(opcode, a, b, c, d, e));
     *word = m.word;
     m.number
 }

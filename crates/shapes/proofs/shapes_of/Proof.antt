@@ -1,8 +1,8 @@
 -- `shapes_of` meets its contract: each arm knows the form. Assumes nothing.
 use borrow.Author.Needs.{needs}
-use Rattle.parts.proofs.Laws.{shapes-at}
-use Rattle.parts.proofs.shapes_of.Statement.{statement}
-use Rattle.parts.proofs.shapes_of.Tie as tie
+use Rattle.shapes.proofs.Laws.{shapes-at}
+use Rattle.shapes.proofs.shapes_of.Statement.{statement}
+use Rattle.shapes.proofs.shapes_of.Tie as tie
 
 pub shapes-of-spec : {M : Type 1} → statement M
 shapes-of-spec =

@@ -1,8 +1,8 @@
 -- `bits_of` is the bits of an operand in its field. Assumes nothing.
 use borrow.Author.Needs.{needs}
-use Rattle.parts.proofs.Laws.{half-at, bits-twos, bits-raw}
-use Rattle.parts.proofs.bits_of.Statement.{statement}
-use Rattle.parts.proofs.bits_of.Tie as tie
+use Rattle.shapes.proofs.Laws.{half-at, bits-twos, bits-raw}
+use Rattle.shapes.proofs.bits_of.Statement.{statement}
+use Rattle.shapes.proofs.bits_of.Tie as tie
 
 ruleset laws = (half-at, bits-twos, bits-raw, needs)
 

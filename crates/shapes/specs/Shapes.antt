@@ -8,9 +8,9 @@ use Rattle.insns.specs.Fields.{Field, make, twos, rawBits}
 use Rattle.insns.specs.Insns.{formAt}
 use Rattle.insns.specs.declared.Made.{Made}
 use Rattle.insns.specs.declared.op.Form.{Form}
-use Rattle.parts.specs.declared.Shape.{Shape}
-use Rattle.parts.specs.declared.Shape.the-variants.{Plain, Twos, Raw}
-use Rattle.parts.specs.declared.Shapes.{Shapes}
+use Rattle.shapes.specs.declared.Shape.{Shape}
+use Rattle.shapes.specs.declared.Shape.the-variants.{Plain, Twos, Raw}
+use Rattle.shapes.specs.declared.Shapes.{Shapes}
 
 -- how many numbers a field holds
 abbrev pub sizeOf : Shape → ℕ

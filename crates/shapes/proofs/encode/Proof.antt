@@ -1,8 +1,8 @@
 -- `encode` meets its contract: the fields of the form are narrow and have room in a word, and packing makes the word. Assumes nothing.
 use borrow.Author.Needs.{needs}
-use Rattle.parts.proofs.Laws.{fit, room-by, encode-by, encode-past}
-use Rattle.parts.proofs.encode.Statement.{statement}
-use Rattle.parts.proofs.encode.Tie as tie
+use Rattle.shapes.proofs.Laws.{fit, room-by, encode-by, encode-past}
+use Rattle.shapes.proofs.encode.Statement.{statement}
+use Rattle.shapes.proofs.encode.Tie as tie
 
 pub encode-spec : {M : Type 1} → statement M
 encode-spec =

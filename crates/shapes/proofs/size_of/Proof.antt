@@ -2,9 +2,9 @@
 use mathlib.Core.Path.{refl}
 use native.Mathlib.Omega.{arith}
 use borrow.Author.Needs.{needs}
-use Rattle.parts.proofs.Laws.{size-at, half-at}
-use Rattle.parts.proofs.size_of.Statement.{statement}
-use Rattle.parts.proofs.size_of.Tie as tie
+use Rattle.shapes.proofs.Laws.{size-at, half-at}
+use Rattle.shapes.proofs.size_of.Statement.{statement}
+use Rattle.shapes.proofs.size_of.Tie as tie
 
 pub size-of-spec : {M : Type 1} → statement M
 size-of-spec =

@@ -24,11 +24,11 @@ use Rattle.decode.specs.declared.Decoded.{Decoded}
 use Rattle.decode.proofs.Sign.{signed-mag}
 use Rattle.decode.proofs.RoundTrip.{head-fits, signed-twos, raw-fits, made-fits, made-decode, decode-made}
 use Rattle.decode.proofs.Facts.{decoded-fits}
 use Rattle.parts.specs.Parts.{parts, partsOf}
-use Rattle.parts.specs.Shapes.{fieldOf, shapesOf, wordOf, encodeOf}
-use Rattle.parts.proofs.Laws.{encode-past}
-use Rattle.parts.specs.declared.Shapes.{Shapes}
+use Rattle.shapes.specs.Shapes.{fieldOf, shapesOf, wordOf, encodeOf}
+use Rattle.shapes.proofs.Laws.{encode-past}
+use Rattle.shapes.specs.declared.Shapes.{Shapes}
 use Rattle.parts.specs.declared.Parts.{Parts}
 
 -- ---- a signed operand that fits its field is read back from its pattern
 

@@ -1,0 +1,2 @@
+-- What the contracts of a form's fields cite.
+pub mod Shapes
