@@ -4,41 +4,13 @@ use codegen::compile::compile;
 use eval::evaluate;
 use machine::run::Ran;
 use ops::Answer;
-use runner::run;
+use pair::evaluate_and_run;
 use table::Dest;
 ghost use Prim.Native.Nat.{_<_, _^_};
 ghost use lib.ListN.{length};
 ghost use Rattle.ops.specs.Ops.{resultOf};
 ghost use Rattle.machine.specs.Run.{out};
-ghost use Rattle.claim.specs.Claim.{Promised, Whole, Wide};
-
-// What a run reports, and what the tree gives.
-pub struct Both {
-    pub ran: Ran,
-    pub tree: Answer,
-}
-
-// Evaluates a table on the registers' values, then runs words with those registers. Where the words are those of the table, the two agree.
-pub fn evaluate_and_run(
-    nodes: &[u64],
-    params: u64,
-    locals: u64,
-    words: &[u64],
-    slot_kinds: &[u8],
-    slot_payloads: &[u64],
-    kinds: &mut [u8],
-    payloads: &mut [u64],
-    budget: u64,
-) -> Both
-    ensures { λ r. ⌜ Promised (now (nodes .entry)) params locals (now (words .entry)) (now («slot_kinds» .entry)) (now («slot_payloads» .entry)) (now (kinds .entry)) (now (payloads .entry)) budget (resultOf (r .tree)) (out (r .ran) (now (kinds .exit)) (now (payloads .exit))) ⌝ }
-{
-    let tree = evaluate(nodes, params, locals, kinds, payloads);
-    let ran = run(words, 0, kinds, payloads, slot_kinds, slot_payloads, budget);
-    Both {
-        ran: ran,
-        tree: tree,
-    }
-}
+ghost use Rattle.claim.specs.Claim.{Whole, Wide};
 
 // What compiling answers, what the tree gives, and what a run of the words reports: of a refused table the number, and no step.
 pub struct Tried {

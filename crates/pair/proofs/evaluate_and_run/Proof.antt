@@ -1,8 +1,8 @@
--- `agree::evaluate_and_run` meets its contract: its two calls are equal to the definitions that the theorem speaks of.
+-- `pair::evaluate_and_run` meets its contract: its two calls are equal to the definitions that the theorem speaks of.
 use borrow.Author.Needs.{needs}
 use Rattle.claim.proofs.Theorem.{promised}
-use Rattle.agree.proofs.evaluate_and_run.Statement.{statement}
-use Rattle.agree.proofs.evaluate_and_run.Tie as tie
+use Rattle.pair.proofs.evaluate_and_run.Statement.{statement}
+use Rattle.pair.proofs.evaluate_and_run.Tie as tie
 
 pub evaluate-and-run-spec : {M : Type 1} → statement M
 evaluate-and-run-spec =
