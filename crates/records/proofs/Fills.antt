@@ -21,9 +21,11 @@ use Rattle.table.specs.declared.Dest.the-variants.{None}
 use Rattle.eval.specs.Evaluate.{unless, evaluateOf}
 use Rattle.codegen.specs.Compile.{accepted, compileOf}
 use Rattle.records.specs.Records.{compileNodes, flat, roomFault, holding, flattened, checkNodes, evaluateNodes}
-use Rattle.records.specs.Copy.{none, orNone, copiedOf, put, filled, checkFront, evaluateFront, compileFront}
+use Rattle.records.specs.Copy.{none, orNone, copiedOf, put, filled}
+use Rattle.front.specs.Front.{checkFront, evaluateFront, compileFront}
 use Rattle.records.specs.declared.Node.{Node}
-use Rattle.records.proofs.Laws.{length-filled, has-room, many, fits}
+use Rattle.front.proofs.Laws.{has-room, many, fits}
+use Rattle.records.proofs.Laws.{length-filled}
 
 -- one number is below another, or it is not
 either : {X : Type 0} (i n : ℕ) → (i < n → X) → (n ≤ i → X) → X

@@ -4,8 +4,8 @@ ghost use mathlib.Core.Path.{_≡_};
 ghost use lib.ListN.{length};
 ghost use Rattle.ops.specs.Ops.{resultOf};
 ghost use Rattle.codegen.specs.Compile.{Compiles};
-ghost use Rattle.records.specs.Records.{roomFault, flattened, checkNodes, evaluateNodes, compileNodes};
-ghost use Rattle.records.specs.Copy.{copiedOf, put, checkFront, evaluateFront, compileFront};
+ghost use Rattle.records.specs.Records.{flattened, checkNodes, evaluateNodes, compileNodes};
+ghost use Rattle.records.specs.Copy.{copiedOf, put};
 use codegen::compile::Compiled;
 use ops::Answer;
 use table::Dest;
@@ -18,24 +18,11 @@ pub struct Node {
     pub depth: u64,
 }
 
-// Of so many records into so many words: 1 where the records are too many for any table, 7 where the words have no room for them.
-fn room_fault(nodes: usize, words: usize) -> u8
-    ensures { λ r. ⌜ r ≡ roomFault nodes words ⌝ }
-{
-    if faults::MAX_NODES < nodes {
-        return faults::BAD_SHAPE;
-    }
-    if words / 4 < nodes {
-        return faults::NO_ROOM;
-    }
-    faults::NONE
-}
-
 // How many records are copied: all, or none where they are refused.
 fn copied(nodes: usize, words: usize) -> usize
     ensures { λ r. ⌜ r ≡ copiedOf nodes words ⌝ }
 {
-    if room_fault(nodes, words) != faults::NONE {
+    if front::room_fault(nodes, words) != faults::NONE {
         return 0;
     }
     nodes
@@ -65,56 +52,6 @@ fn flatten(nodes: &[Node], words: &mut [u64])
     }
 }
 
-// The check of the first n records that the words hold. The words are lent by `&mut`, as those who hand them on for good have them, and stay as they are.
-fn check_front(words: &mut [u64], n: usize, params: u64, locals: u64, dest: Dest) -> u8
-    ensures { λ r. ⌜ (r ≡ checkFront (now (words .entry)) n params locals dest) × (now (words .exit) ≡ now (words .entry)) ⌝ }
-{
-    let f = room_fault(n, words.len());
-    if f != faults::NONE {
-        return f;
-    }
-    checks::check(&words[..4 * n], params, locals, dest)
-}
-
-// The evaluation of the first n records that the words hold, likewise.
-fn evaluate_front(
-    words: &mut [u64],
-    n: usize,
-    params: u64,
-    locals: u64,
-    kinds: &[u8],
-    payloads: &[u64],
-) -> Answer
-    ensures { λ r. ⌜ (resultOf r ≡ evaluateFront (now (words .entry)) n params locals (now (kinds .entry)) (now (payloads .entry))) × (now (words .exit) ≡ now (words .entry)) ⌝ }
-{
-    let f = room_fault(n, words.len());
-    if f != faults::NONE {
-        return Answer::Fault(f);
-    }
-    eval::evaluate(&words[..4 * n], params, locals, kinds, payloads)
-}
-
-// The compile of the first n records that the words hold, likewise.
-fn compile_front(
-    words: &mut [u64],
-    n: usize,
-    params: u64,
-    locals: u64,
-    dest: Dest,
-    code: &mut [u64],
-    kinds: &mut [u8],
-    payloads: &mut [u64],
-) -> Compiled
-    ensures { λ r. ⌜ (Compiles r (compileFront (now (words .entry)) n params locals dest (length (now (code .entry))) (length (now (kinds .entry))) (length (now (payloads .entry)))) (now (code .exit)) (now (kinds .exit)) (now (payloads .exit)) (length (now (code .entry))) (length (now (kinds .entry))) (length (now (payloads .entry))))
-        × (now (words .exit) ≡ now (words .entry)) ⌝ }
-{
-    let f = room_fault(n, words.len());
-    if f != faults::NONE {
-        return codegen::compile::refuse(f, code, kinds, payloads);
-    }
-    codegen::compile::compile(&words[..4 * n], params, locals, dest, code, kinds, payloads)
-}
-
 // The number of a table of records with its layout and its destination: what `checks::check` gives for the same nodes as words. The caller
 // lends room for four words a record; 7 where that is too little.
 pub fn check_nodes(nodes: &[Node], words: &mut [u64], params: u64, locals: u64, dest: Dest) -> u8
@@ -122,7 +59,7 @@ pub fn check_nodes(nodes: &[Node], words: &mut [u64], params: u64, locals: u64, 
         × (now (words .exit) ≡ flattened (now (nodes .entry)) (now (words .entry))) ⌝ }
 {
     flatten(nodes, words);
-    check_front(words, nodes.len(), params, locals, dest)
+    front::check_front(words, nodes.len(), params, locals, dest)
 }
 
 // The answer of a table of records on the values of its parameters and locals: what `eval::evaluate` gives for the same nodes as words.
@@ -139,7 +76,7 @@ pub fn evaluate_nodes(
         × (now (words .exit) ≡ flattened (now (nodes .entry)) (now (words .entry))) ⌝ }
 {
     flatten(nodes, words);
-    evaluate_front(words, nodes.len(), params, locals, kinds, payloads)
+    front::evaluate_front(words, nodes.len(), params, locals, kinds, payloads)
 }
 
 // The compile of a table of records: what `codegen::compile` answers, and writes, for the same nodes as words. The caller lends room for
@@ -158,7 +95,7 @@ pub fn compile_nodes(
         × (now (words .exit) ≡ flattened (now (nodes .entry)) (now (words .entry))) ⌝ }
 {
     flatten(nodes, words);
-    compile_front(
+    front::compile_front(
         words,
         nodes.len(),
         params,

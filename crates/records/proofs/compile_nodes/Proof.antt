@@ -39,7 +39,7 @@ use denote.Triple.Table.{entered, cited}
 use denote.Triple.Walked.{says, Stays, stay-none-slice, gave-slice, stay-none, walkOf, goes-none-slice, goes-gave-slice, goes-none, Walks, ends-at, walked, walk-meets}
 use denote.Exit.{yes}
 use Rattle.records.specs.Records.{flattened}
-use Rattle.records.specs.Copy.{compileFront}
+use Rattle.front.specs.Front.{compileFront}
 use Rattle.records.specs.declared.Node.{Node}
 use Rattle.records.proofs.Node as T
 use Rattle.emit.specs.State.{Res, State}
@@ -58,10 +58,10 @@ use Rattle.records.proofs.Records.{Lent}
 use Rattle.records.proofs.flatten.Symbol as flatten-def
 use Rattle.records.proofs.flatten.Symbol.{name as #flatten}
 use Rattle.records.proofs.flatten.Met as flatten-thm
-use Rattle.records.proofs.compile_front as compile-front
-use Rattle.records.proofs.compile_front.Symbol as compile-front-def
-use Rattle.records.proofs.compile_front.Symbol.{name as #compile-front}
-use Rattle.records.proofs.compile_front.Met as compile-front-thm
+use Rattle.front.proofs.compile_front as compile-front
+use Rattle.front.proofs.compile_front.Symbol as compile-front-def
+use Rattle.front.proofs.compile_front.Symbol.{name as #compile-front}
+use Rattle.front.proofs.compile_front.Met as compile-front-thm
 use Rattle.records.proofs.compile_nodes.Key.{name as #compile-nodes}
 use Rattle.records.proofs.compile_nodes as f
 use Rattle.records.proofs.compile_nodes.Statement as stated

@@ -39,7 +39,7 @@ use denote.Triple.Table.{entered, cited}
 use denote.Triple.Walked.{says, Stays, stay-none-slice, gave-slice, stay-none, walkOf, goes-none-slice, goes-gave-slice, goes-none, Walks, ends-at, walked, walk-meets}
 use denote.Exit.{yes}
 use Rattle.records.specs.Records.{flattened}
-use Rattle.records.specs.Copy.{evaluateFront}
+use Rattle.front.specs.Front.{evaluateFront}
 use Rattle.records.specs.declared.Node.{Node}
 use Rattle.records.proofs.Node as T
 use Rattle.ops.specs.Ops.{resultOf}
@@ -54,10 +54,10 @@ use Rattle.records.proofs.Records.{Lent}
 use Rattle.records.proofs.flatten.Symbol as flatten-def
 use Rattle.records.proofs.flatten.Symbol.{name as #flatten}
 use Rattle.records.proofs.flatten.Met as flatten-thm
-use Rattle.records.proofs.evaluate_front as evaluate-front
-use Rattle.records.proofs.evaluate_front.Symbol as evaluate-front-def
-use Rattle.records.proofs.evaluate_front.Symbol.{name as #evaluate-front}
-use Rattle.records.proofs.evaluate_front.Met as evaluate-front-thm
+use Rattle.front.proofs.evaluate_front as evaluate-front
+use Rattle.front.proofs.evaluate_front.Symbol as evaluate-front-def
+use Rattle.front.proofs.evaluate_front.Symbol.{name as #evaluate-front}
+use Rattle.front.proofs.evaluate_front.Met as evaluate-front-thm
 use Rattle.records.proofs.evaluate_nodes.Key.{name as #evaluate-nodes}
 use Rattle.records.proofs.evaluate_nodes as f
 use Rattle.records.proofs.evaluate_nodes.Statement as stated

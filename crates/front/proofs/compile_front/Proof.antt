@@ -1,7 +1,7 @@
--- `records::compile_front` meets its contract: a law for each way out. Assumes nothing.
-use Rattle.records.proofs.Laws.{fronts}
-use Rattle.records.proofs.compile_front.Statement.{statement}
-use Rattle.records.proofs.compile_front.Tie as tie
+-- `front::compile_front` meets its contract: a law for each way out. Assumes nothing.
+use Rattle.front.proofs.Laws.{fronts}
+use Rattle.front.proofs.compile_front.Statement.{statement}
+use Rattle.front.proofs.compile_front.Tie as tie
 
 pub compile-front-spec : {M : Type 1} → statement M
 compile-front-spec =
