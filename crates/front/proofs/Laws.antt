@@ -9,7 +9,7 @@ use borrow.Author.Tests.{le-ltb, lt-ltb, ltb-false}
 use mir.Syntax.{w64}
 use mir.Val.{Fits}
 use borrow.Author.Needs.{needs}
-use Rattle.faults.specs.Faults.{fault}
+use Rattle.faults.specs.Faults.{fault, _or-else_}
 use Rattle.faults.specs.Limits.{maxNodes}
 use Rattle.faults.specs.Numbers.{badShape, noRoom}
 use Rattle.faults.proofs.Faults.{none-both, failed, pass, stop}
