@@ -3,7 +3,7 @@ use codegen::compile::Compiled;
 use codegen::compile::compile;
 use eval::evaluate;
 use machine::run::Ran;
-use ops::Answer;
+use answer::Answer;
 use runner::run;
 use table::Dest;
 ghost use Prim.Native.Nat.{_<_, _^_};

@@ -15,7 +15,7 @@ use crate::why::get;
 use crate::why::say_why;
 use codegen::compile::Compiled;
 use machine::run::Ran;
-use ops::Answer;
+use answer::Answer;
 use table::Dest;
 ghost use Prim.Native.Nat.{_<_, _≤_};
 

@@ -6,7 +6,7 @@ use effect::effect_of;
 use effect::room;
 use insns::fields::magnitude;
 use insns::op::Disp;
-use ops::Answer;
+use answer::Answer;
 use value::value::Value;
 use value::value::kind_of;
 use value::value::payload_of;

@@ -59,19 +59,19 @@ pub struct Shapes {
 fn imm16(imm: Imm16) -> u64
     ensures { λ r. ⌜ r ≡ ofZ w64 (imm .n) ⌝ }
 {
-    int64::pattern(imm.n as i64)
+    sign::pattern(imm.n as i64)
 }
 
 fn imm40(imm: Imm40) -> u64
     ensures { λ r. ⌜ r ≡ ofZ w64 (imm .raw) ⌝ }
 {
-    int64::pattern(imm.raw)
+    sign::pattern(imm.raw)
 }
 
 fn disp(disp: Disp) -> u64
     ensures { λ r. ⌜ r ≡ ofZ w64 (disp .by) ⌝ }
 {
-    int64::pattern(disp.by as i64)
+    sign::pattern(disp.by as i64)
 }
 
 fn of(opcode: u8, a: u64, b: u64, c: u64, d: u64, e: u64) -> Parts
@@ -237,9 +237,9 @@ fn bits_of(s: Shape, p: u64) -> u64
 {
     match s {
         Shape::Plain(_) => p,
-        Shape::Twos(h) => signed_bits(int64::signed(p), h),
+        Shape::Twos(h) => signed_bits(sign::signed(p), h),
         Shape::Raw => raw_bits(Imm40 {
-            raw: int64::signed(p),
+            raw: sign::signed(p),
         }),
     }
 }

@@ -7,7 +7,7 @@ ghost use Rattle.codegen.specs.Compile.{Compiles};
 ghost use Rattle.records.specs.Records.{roomFault, flattened, checkNodes, evaluateNodes, compileNodes};
 ghost use Rattle.records.specs.Copy.{copiedOf, put, checkFront, evaluateFront, compileFront};
 use codegen::compile::Compiled;
-use ops::Answer;
+use answer::Answer;
 use table::Dest;
 
 // A node of a table: the four words of document 01, by name.

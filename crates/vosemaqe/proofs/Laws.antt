@@ -9,8 +9,8 @@ use Rattle.table.specs.Table.{checkOf}
 use Rattle.value.specs.Value.{meaning, kindOf, payloadOf}
 use Rattle.ops.specs.Ops.{Result, resultOf}
 use Rattle.value.specs.declared.value.Value.{Value}
-use Rattle.ops.specs.declared.Answer.{Answer}
-use Rattle.ops.specs.declared.Answer.the-variants as A
+use Rattle.answer.specs.declared.Answer.{Answer}
+use Rattle.answer.specs.declared.Answer.the-variants as A
 use Rattle.codegen.specs.Compile as C
 use Rattle.codegen.specs.Compile.{compileOf}
 use Rattle.codegen.specs.declared.compile.Compiled.{Compiled}

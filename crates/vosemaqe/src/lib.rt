@@ -3,7 +3,7 @@
 use codegen::compile::Compiled;
 use decode::Decoded;
 use insns::Made;
-use ops::Answer;
+use answer::Answer;
 use patch::Patched;
 use table::Dest;
 ghost use mathlib.Core.Path.{_≡_};
