@@ -1,4 +1,5 @@
 // What one instruction asks for. Nothing is written here: an effect is carried out by the step, in the crate `machine`.
+use answer::Answer;
 use insns::op::Arith;
 use insns::op::Bare;
 use insns::op::Cmp;
@@ -11,7 +12,6 @@ use insns::op::Shift;
 use insns::op::Slot;
 use insns::op::Three;
 use insns::op::Two;
-use answer::Answer;
 use ops::binary;
 use value::value::Lent;
 use value::value::Value;

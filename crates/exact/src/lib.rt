@@ -62,7 +62,11 @@ pub fn fits(op: Arith, p: u64, q: u64) -> bool
                 b > a - 0x8000_0000_0000_0000
             }
         }
-        Arith::Mul => times_fits(sign::negative(p) != sign::negative(q), sign::size(p), sign::size(q)),
+        Arith::Mul => times_fits(
+            sign::negative(p) != sign::negative(q),
+            sign::size(p),
+            sign::size(q),
+        ),
     }
 }
 
@@ -74,7 +78,11 @@ pub fn result(op: Arith, p: u64, q: u64) -> u64
         match op {
             Arith::Add => std::num::wrapping_add_u64(p, q),
             Arith::Sub => std::num::wrapping_sub_u64(p, q),
-            Arith::Mul => times(sign::negative(p) != sign::negative(q), sign::size(p), sign::size(q)),
+            Arith::Mul => times(
+                sign::negative(p) != sign::negative(q),
+                sign::size(p),
+                sign::size(q),
+            ),
         }
     } else {
         0

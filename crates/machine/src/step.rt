@@ -1,4 +1,5 @@
 // One step: the word at a position is decoded, and its effect carried out.
+use answer::Answer;
 use decode::Decoded;
 use decode::decode;
 use effect::Effect;
@@ -6,7 +7,6 @@ use effect::effect_of;
 use effect::room;
 use insns::fields::magnitude;
 use insns::op::Disp;
-use answer::Answer;
 use value::value::Value;
 use value::value::kind_of;
 use value::value::payload_of;

@@ -1,9 +1,9 @@
 // The library for C and Rust callers. Each function does what the routine of its name does and gives what that gives, as numbers: the number
 // of the answer is returned, results are left in cells. include/vosemaqe.h is the manual.
+use answer::Answer;
 use codegen::compile::Compiled;
 use decode::Decoded;
 use insns::Made;
-use answer::Answer;
 use patch::Patched;
 use table::Dest;
 ghost use mathlib.Core.Path.{_≡_};
