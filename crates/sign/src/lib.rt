@@ -45,10 +45,10 @@ pub fn negative(p: u64) -> bool
 pub fn size(p: u64) -> u64
     ensures { λ r. ⌜ r ≡ natAbs (toZ w64 p) ⌝ }
 {
-    if p < 0x8000_0000_0000_0000 {
-        p
-    } else {
+    if p >= 0x8000_0000_0000_0000 {
         0xffff_ffff_ffff_ffff - p + 1
+    } else {
+        p
     }
 }
 
