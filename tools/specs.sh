@@ -11,6 +11,6 @@ while [ ${#todo[@]} -gt 0 ]; do
     seen[$f]=1
     while read -r crate name; do
         [ ! -e "crates/$crate/specs/$name.antt" ] || todo+=("crates/$crate/specs/$name.antt")
-    done < <(sed -nE 's/^(ghost )?(pub )?use Rattle·([a-z0-9_]+)(·specs)?\.specs\.([A-Za-z0-9]+).*/\3 \5/p' "$f")
+    done < <(sed -nE 's/^(ghost |unfoldable )?(pub )?use Rattle·([a-z0-9_]+)(·specs)?\.specs\.([A-Za-z0-9]+).*/\3 \5/p' "$f")
 done
 printf '%s\n' "${!seen[@]}" | grep 'antt$' | sort | xargs wc -l

@@ -6,8 +6,8 @@ use Rattle.table.specs.declared.Dest.the-variants.{None, Reg}
 use Rattle.value.specs.Value.{meaning, kindOf, payloadOf}
 use Rattle.ops.specs.Ops.{resultOf}
 use Rattle.value.specs.declared.value.Value.{Value}
-use Rattle.ops.specs.declared.Answer.{Answer}
-use Rattle.ops.specs.declared.Answer.the-variants as A
+use Rattle.answer.specs.declared.Answer.{Answer}
+use Rattle.answer.specs.declared.Answer.the-variants as A
 use Rattle.codegen.specs.declared.compile.Compiled.{Compiled}
 use Rattle.codegen.specs.declared.compile.Compiled.the-variants.{Done, Refused}
 use Rattle.faults.specs.Numbers.{undecoded, noFit}

@@ -1,8 +1,8 @@
 // How the answers of the crates below stand as numbers, one for each cell of a caller's: the number of the answer, and 0 in every cell wherever it is not 0.
+use answer::Answer;
 use codegen::compile::Compiled;
 use decode::Decoded;
 use insns::Made;
-use ops::Answer;
 use patch::Patched;
 use table::Dest;
 ghost use mathlib.Core.Path.{_≡_};

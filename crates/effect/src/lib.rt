@@ -1,4 +1,5 @@
 // What one instruction asks for. Nothing is written here: an effect is carried out by the step, in the crate `machine`.
+use answer::Answer;
 use insns::op::Arith;
 use insns::op::Bare;
 use insns::op::Cmp;
@@ -11,8 +12,7 @@ use insns::op::Shift;
 use insns::op::Slot;
 use insns::op::Three;
 use insns::op::Two;
-use ops::Answer;
-use ops::binary::binary;
+use ops::binary;
 use value::value::Lent;
 use value::value::Value;
 use value::value::from_pair;
@@ -94,14 +94,14 @@ fn literal16(z: Imm16) -> Answer
 fn mask(lo: u8, len: u8) -> Answer
     ensures { λ r. ⌜ resultOf r ≡ Fx.mask lo len ⌝ }
 {
-    literal(int64::signed(int64::mask(lo as u64, len as u64)))
+    literal(sign::signed(mask::mask(lo as u64, len as u64)))
 }
 
 fn raw(z: Imm40) -> Answer
     ensures { λ r. ⌜ resultOf r ≡ Fx.rawOf (z .raw) ⌝ }
 {
     let n = z.raw;
-    let b = int64::pattern(n);
+    let b = sign::pattern(n);
     if b == 1 {
         return Answer::Is(Value::Nil);
     }
@@ -117,7 +117,7 @@ fn raw(z: Imm40) -> Answer
 fn inverted(r: Answer) -> Answer
     ensures { λ a. ⌜ resultOf a ≡ Fx.inverted (resultOf r) ⌝ }
 {
-    ops::negated(r)
+    negate::negated(r)
 }
 
 fn sense(k: Sense, r: Answer) -> Answer

@@ -123,7 +123,7 @@ pub fn lit_of(nodes: &[u64], i: usize) -> Lit
     ensures { λ r. ⌜ r ≡ litOf (tree (now (nodes .entry)) i) ⌝ }
 {
     if table::kind_at(nodes, i) == table::INT {
-        return Lit::Is(int64::signed(table::payload_at(nodes, i)));
+        return Lit::Is(sign::signed(table::payload_at(nodes, i)));
     }
     Lit::Not
 }

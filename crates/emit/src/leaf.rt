@@ -76,7 +76,7 @@ pub fn gen_value(
         table::TRUE => put_load(code, Imm40 { raw: RAW_TRUE }, dst, st),
         table::FALSE => put_load(code, Imm40 { raw: RAW_FALSE }, dst, st),
         table::INT => {
-            let z = int64::signed(p);
+            let z = sign::signed(p);
             if within(z, IMM40) {
                 return put_load(code, Imm40 { raw: 4 * z }, dst, st);
             }

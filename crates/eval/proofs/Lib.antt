@@ -1,5 +1,4 @@
 -- The proofs of the evaluator: the laws of its parts, of a node with its children, and of the entry.
-pub mod Laws
 pub mod Walk
 pub mod Entry
 pub mod Samples

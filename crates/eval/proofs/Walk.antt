@@ -9,24 +9,39 @@ use lib.Dec.{eqb}
 use lib.ListN.{length, getD}
 use Rattle.table.specs.Table.{kindAt, payloadAt, depthAt, child1, child2, child3, Node, Child, ChildIs}
 use Rattle.table.specs.Tree as T
-use Rattle.table.specs.Tree.{Leaf, Unary, Arith, Cmp, Binary, Tree, kindOf, tree, unaryCode, arithCode, cmpCode, binaryCode}
-use Rattle.table.proofs.Arities.{leaf-le, unary-code, binary-code, ternary-code, unary-codes, arith-codes, cmp-codes}
+use Rattle.table.specs.Tree.{Leaf, Unary, Arith, Cmp, Binary, Tree, Kind, leafKind, unaryKind, binaryKind, ternaryKind, noKind, kindOf, tree, unaryCode, arithCode, cmpCode, binaryCode}
+use Rattle.table.proofs.Arities.{at-kind, leaf-le, unary-code, binary-code, ternary-code, unary-codes, arith-codes, cmp-codes}
 use Rattle.table.proofs.Nodes.{ok}
 use Rattle.table.proofs.Trees.{UnaryAt, BinaryAt, TernaryAt, View, is-leaf, is-unary, is-binary, is-ternary, view, leaf-in}
 use Rattle.value.specs.Value.{Datum, bool, datums}
 use Rattle.ops.specs.Ops as Ops
 use Rattle.ops.specs.Ops.{Result, is, fault}
 use Rattle.eval.specs.Eval.{leafOf, unaryOf, arithOf, cmpOf, on, both, whether, test, binaryOf, evalOf}
-use Rattle.eval.specs.Steps.{Ruled, leaves, truthOf, ruleOf, firstOf, afterOf, chosenOf, nextOf, aloneOf, joinedOf}
-use Rattle.eval.specs.declared.Next.{Next}
-use Rattle.eval.specs.declared.Next.the-variants.{Stop, Go}
-use Rattle.eval.specs.declared.Rule.{Rule}
-use Rattle.eval.specs.declared.Rule.the-variants as R
-use Rattle.eval.specs.declared.Truth.{Truth}
-use Rattle.eval.specs.declared.Truth.the-variants.{Yes, No, Wrong}
-use Rattle.eval.proofs.Laws.{chooses, whether-by, leaf-code, rule-unary, rule-operator, rule-ternary}
+use Rattle.descend.specs.Descend.{Ruled, truthOf, ruleOf, firstOf, afterOf, chosenOf, nextOf}
+use Rattle.apply.specs.Steps.{leaves, aloneOf, joinedOf}
+use Rattle.descend.specs.declared.Next.{Next}
+use Rattle.descend.specs.declared.Next.the-variants.{Stop, Go}
+use Rattle.descend.specs.declared.Rule.{Rule}
+use Rattle.descend.specs.declared.Rule.the-variants as R
+use Rattle.descend.specs.declared.Truth.{Truth}
+use Rattle.descend.specs.declared.Truth.the-variants.{Yes, No, Wrong}
+use Rattle.descend.proofs.Laws.{rule-unary, rule-operator, rule-ternary}
+use Rattle.apply.proofs.Laws.{chooses, whether-by}
 
--- ---- the operators of `value` by node kind are those of the tree
+-- ---- leaves: the entry of its kind is the leaf's answer
+
+leaf-rule : List Datum → ℕ → ℕ → Kind → Type 0
+leaf-rule ls p k (leafKind f) = leafOf ls (f p) ≡ getD (leaves ls p) k (fault 0)
+leaf-rule ls p k (unaryKind o) = Unit {0}
+leaf-rule ls p k (binaryKind o) = Unit {0}
+leaf-rule ls p k ternaryKind = Unit {0}
+leaf-rule ls p k noKind = Unit {0}
+
+pub leaf-code : (ls : List Datum) (p k : ℕ) (f : ℕ → Leaf) → kindOf k ≡ leafKind f → leafOf ls (f p) ≡ getD (leaves ls p) k (fault 0)
+unfolding leaf-rule leafOf
+leaf-code ls p k f e = subst (leaf-rule ls p k) e (at-kind (leaf-rule ls p) (λ j l. tt) (refl, (refl, (refl, (refl, (refl, (refl, omega arith)))))) k)
+
+-- ---- the operators by node kind are those of the tree
 
 pub arith-is : (o : Arith) → Ops.binaryOf (arithCode o) ≡ arithOf o
 unfolding arithOf

@@ -1,14 +1,14 @@
 -- The meaning of a tree on the values of its locals, as document 01 has it: a value, or the number of the first fault.
 -- Assumes nothing: these are definitions.
 use Prim.Native.Nat.{ℕ}
-use mathlib.Core.Bool.{true, false, cond}
+use mathlib.Core.Bool.{true, false}
 use mathlib.Core.List.{List}
 use lib.ListN.{getD}
-use Rattle.faults.specs.Numbers.{wrongKind}
 use Rattle.table.specs.Tree as T
 use Rattle.table.specs.Tree.{Leaf, Unary, Arith, Cmp, Binary, Tree}
 use Rattle.value.specs.Value.{Datum, nil, bool, int, float}
-use Rattle.ops.specs.Ops.{Result, is, fault, minusOf, notOf, andOf, orOf, xorOf, shlOf, shrOf, addOf, subOf, mulOf, divOf, remOf, eqOf, neOf, ltOf, leOf}
+use Rattle.ops.specs.Ops.{Result, is, minusOf, notOf, andOf, orOf, xorOf, shlOf, shrOf, addOf, subOf, mulOf, divOf, remOf, eqOf, neOf, ltOf, leOf}
+unfoldable pub use Rattle.apply.specs.Apply.{on, both, whether, test}
 
 -- ---- a literal is its value, a Ref the value of its local
 
@@ -47,26 +47,7 @@ cmpOf T.le = leOf
 cmpOf T.gt = λ x y. ltOf y x
 cmpOf T.ge = λ x y. leOf y x
 
--- ---- the operators on answers: left before right, and the first fault counts
-
-unfoldable pub on : (Datum → Result) → Result → Result
-on f (is x) = f x
-on f (fault n) = fault n
-
-unfoldable pub both : (Datum → Datum → Result) → Result → Result → Result
-both f (is x) b = on (f x) b
-both f (fault n) b = fault n
-
--- a test wants a Bool, and only the answer that it chooses is looked at
-unfoldable pub whether : Result → Result → Result → Result
-whether (is nil) b c = fault wrongKind
-whether (is (bool t)) b c = cond t b c
-whether (is (int z)) b c = fault wrongKind
-whether (is (float p)) b c = fault wrongKind
-whether (fault n) b c = fault n
-
-unfoldable pub test : Result → Result
-test a = whether a (is (bool true)) (is (bool false))
+-- ---- on answers
 
 unfoldable pub binaryOf : Binary → Result → Result → Result
 binaryOf (T.arith o) a b = both (arithOf o) a b

@@ -1,6 +1,6 @@
 // Replays node tables with their locals, and writes what the check and the evaluator answer; tools/oracle/README.md has the layout.
 ghost use Prim.Native.Nat.{_≤_};
-use ops::Answer;
+use answer::Answer;
 use table::Dest;
 
 // Room for the largest record.

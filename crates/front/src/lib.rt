@@ -1,7 +1,7 @@
 // The word table's routines over the front of lent words: the first n records of four words each. Records that are too many for a table, or for
 // the words lent, are refused.
+use answer::Answer;
 use codegen::compile::Compiled;
-use ops::Answer;
 use table::Dest;
 ghost use mathlib.Core.Path.{_≡_};
 ghost use lib.ListN.{length};

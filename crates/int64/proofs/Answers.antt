@@ -1,26 +1,33 @@
--- What each operator and comparison answers, as the code finds it. Assumes nothing.
+-- What each operator answers, as the code finds it. Assumes nothing.
 use mathlib.Core.Path.{_≡_, refl, sym, ap, ap₂, _∙_}
-use mathlib.Core.Bool.{Bool, true, false, not, _||_, cond}
+use mathlib.Core.Bool.{Bool, true, false, cond}
 use Prim.Native.Nat.{ℕ, _-_, _*_, _%_, _≤_, _<_, _^_}
 use native.Mathlib.Nat.{lt-of-le-of-lt, mod-lt}
 use native.Mathlib.Decide.{decLt}
 use native.Mathlib.Omega.{arith}
-use lib.Dec.{ltb, leb, eqb}
 use lib.IntN.{ℤ, pos, negsuc, natAbs, _*ℤ_}
-use lib.Signed.{ltZ, shrZ, mag-shr, natAbs-le}
+use lib.Signed.{mag, shrZ, mag-shr, natAbs-le}
 use mir.Syntax.{w64}
 use mir.Val.{SFits, Fits, toZ, ofZ}
 use mir.ValLaws.{toZ-ofZ, ofZ-toZ, toZ-fits}
-use borrow.Author.Tests.{lt-ltb, le-ltb, le-leb, lt-leb, eq-eqb, ne-eqb, ltb-true}
+use borrow.Author.Tests.{lt-ltb, le-ltb, eq-eqb, ne-eqb, ltb-true}
 use Rattle.faults.specs.Numbers.{modByZero, badShift}
+use Rattle.sign.specs.Sign.{bitsOf}
+use Rattle.sign.proofs.Laws.{one-shifted}
+use Rattle.exact.proofs.Laws.{by-positive, sign-number, sign-fits}
 use Rattle.int64.specs.Int as Int
-use Rattle.int64.specs.Int.{Outcome, number, fault, inRange, checked, exact, held, negative, withSign, bitsOf, bitwise}
-use Rattle.int64.specs.Order.{Order, less, equal, greater, unordered, isLess, isEqual, isGreater, orderZ, holds}
-use Rattle.int64.specs.declared.Cmp.{Cmp}
-use Rattle.int64.specs.declared.Cmp.the-variants.{Eq, Ne, Lt, Le, Gt, Ge}
-use Rattle.int64.proofs.Laws.{never, up, orderN, order-up, checked-exact, by-positive, shift-yes, shift-no, one-shifted, floor-is, sign-number, sign-fits}
+use Rattle.int64.specs.Int.{Outcome, number, fault, inRange, checked, exact, held, negative, withSign, bitwise, shifted, floor}
 
 -- ---- exact results
+
+-- the answer made of the test and the pattern
+pub checked-exact : (z : ℤ) → checked (inRange z) (toZ w64 (held z)) ≡ exact z
+unfolding exact held checked inRange
+checked-exact z = go (inRange z) refl
+  where
+    go : (b : Bool) → inRange z ≡ b → checked b (toZ w64 (cond b (ofZ w64 z) 0)) ≡ checked b z
+    go true e = ap number (toZ-ofZ w64 z (record { sfits = ltb-true (mag z) (2 ^ 63) e }))
+    go false e = refl
 
 pub exact-by : (z : ℤ) {o : Outcome} {t : Bool} {u : ℕ} → o ≡ checked t (toZ w64 u) → t ≡ inRange z → u ≡ held z → o ≡ exact z
 exact-by z e f g = e ∙ ap₂ (λ (b : Bool) (n : ℕ). checked b (toZ w64 n)) f g ∙ checked-exact z
@@ -32,6 +39,20 @@ unfolding bitwise
 bits-by f p q h k = sym (ap₂ (λ (m n : ℕ). number (toZ w64 (f m n))) (ofZ-toZ w64 p h) (ofZ-toZ w64 q k))
 
 -- ---- shifts
+
+pub shift-yes : (q : ℕ) (f : ℕ → Outcome) → q < 64 → shifted (toZ w64 q) f ≡ f q
+shift-yes q f h = rw (lt-ltb q (2 ^ 63) (omega arith), lt-ltb q 64 h)
+
+pub shift-no : (q : ℕ) (f : ℕ → Outcome) → 64 ≤ q → fault badShift ≡ shifted (toZ w64 q) f
+shift-no q f h = elim (decLt q (2 ^ 63)) [
+  | yes l ↦ sym (rw (lt-ltb q (2 ^ 63) l, le-ltb q 64 h))
+  | no g ↦ sym (rw (le-ltb q (2 ^ 63) (omega arith)))
+]
+
+pub floor-is : (z : ℤ) (d : ℕ) → shrZ z d ≡ floor z d
+unfolding floor
+floor-is (pos n) d = refl
+floor-is (negsuc n) d = refl
 
 pub shl-no : (p q : ℕ) → 64 ≤ q → fault badShift ≡ Int.shl (toZ w64 p) (toZ w64 q)
 unfolding Int.shl
@@ -77,74 +98,4 @@ rem-yes p q r {s} {x} {y} e a b c n f =
     least true = omega arith
     least false = omega arith
 
--- ---- comparisons: which tests hold, by how a and b stand
-
-record Tests (a b : ℕ) (o : Order) : Type 0 where
-  eq : eqb a b ≡ isEqual o
-  lt : ltb a b ≡ isLess o
-  le : leb a b ≡ (isLess o || isEqual o)
-  gt : ltb b a ≡ isGreater o
-  ge : leb b a ≡ (isGreater o || isEqual o)
-
-tests : (a b : ℕ) → Tests a b (orderN a b)
-tests a b = elim (decLt a b) [
-  | yes l ↦ rw (lt-ltb a b l) (record { eq = ne-eqb a b (λ e. omega arith); lt = lt-ltb a b l; le = le-leb a b (omega arith); gt = le-ltb b a (omega arith); ge = lt-leb b a l })
-  | no n ↦ elim (decLt b a) [
-    | yes l ↦ rw (le-ltb a b (omega arith), lt-ltb b a l) (record { eq = ne-eqb a b (λ e. omega arith); lt = le-ltb a b (omega arith); le = lt-leb a b l; gt = lt-ltb b a l; ge = le-leb b a (omega arith) })
-    | no m ↦ rw (le-ltb a b (omega arith), le-ltb b a (omega arith)) (record { eq = eq-eqb a b (omega arith); lt = le-ltb a b (omega arith); le = le-leb a b (omega arith); gt = le-ltb b a (omega arith); ge = le-leb b a (omega arith) })
-  ]
-]
-
-module _ (op : Cmp) (p q : ℕ) {a b : ℕ} (x : a ≡ up p) (y : b ≡ up q) (f : Fits w64 p) (g : Fits w64 q) where
-  same : (t : ℕ → ℕ → Bool) → t (up p) (up q) ≡ holds op (orderN (up p) (up q)) → t a b ≡ holds op (orderZ (toZ w64 p) (toZ w64 q))
-  same t h = ap₂ t x y ∙ h ∙ ap (holds op) (sym (order-up p q (f .fits) (g .fits)))
-
-  pub eq-is : op ≡ Eq → eqb a b ≡ holds op (orderZ (toZ w64 p) (toZ w64 q))
-  unfolding holds
-  eq-is e = same eqb (rw e (tests (up p) (up q) .eq))
-
-  pub ne-is : op ≡ Ne → not (eqb a b) ≡ holds op (orderZ (toZ w64 p) (toZ w64 q))
-  unfolding holds
-  ne-is e = same (λ m n. not (eqb m n)) (rw e (ap not (tests (up p) (up q) .eq)))
-
-  pub lt-is : op ≡ Lt → ltb a b ≡ holds op (orderZ (toZ w64 p) (toZ w64 q))
-  unfolding holds
-  lt-is e = same ltb (rw e (tests (up p) (up q) .lt))
-
-  pub le-is : op ≡ Le → leb a b ≡ holds op (orderZ (toZ w64 p) (toZ w64 q))
-  unfolding holds
-  le-is e = same leb (rw e (tests (up p) (up q) .le))
-
-  pub gt-is : op ≡ Gt → ltb b a ≡ holds op (orderZ (toZ w64 p) (toZ w64 q))
-  unfolding holds
-  gt-is e = same (λ m n. ltb n m) (rw e (tests (up p) (up q) .gt))
-
-  pub ge-is : op ≡ Ge → leb b a ≡ holds op (orderZ (toZ w64 p) (toZ w64 q))
-  unfolding holds
-  ge-is e = same (λ m n. leb n m) (rw e (tests (up p) (up q) .ge))
-
-pub ruleset answers = (exact-by, bits-by, shl-no, shr-no, shl-yes, shr-yes, rem-no, rem-yes, eq-is, ne-is, lt-is, le-is, gt-is, ge-is)
-
--- ---- exchanged
-
-pub never-both : (a b : ℤ) → ltZ a b ≡ true → ltZ b a ≡ false
-never-both (pos a) (pos b) e = le-ltb b a (omega (arith, ltb-true a b e))
-never-both (pos a) (negsuc b) e = never (sym e)
-never-both (negsuc a) (pos b) e = refl
-never-both (negsuc a) (negsuc b) e = le-ltb a b (omega (arith, ltb-true b a e))
-
-abbrev pub flip : Order → Order
-flip less = greater
-flip equal = equal
-flip greater = less
-flip unordered = unordered
-
-pub orderZ-flip : (a b : ℤ) → orderZ b a ≡ flip (orderZ a b)
-unfolding orderZ
-orderZ-flip a b = go (ltZ a b) (ltZ b a) (never-both a b)
-  where
-    go : (x y : Bool) → (x ≡ true → y ≡ false) → cond y less (cond x greater equal) ≡ flip (cond x less (cond y greater equal))
-    go true true n = never (n refl)
-    go true false n = refl
-    go false true n = refl
-    go false false n = refl
+pub ruleset answers = (exact-by, bits-by, shl-no, shr-no, shl-yes, shr-yes, rem-no, rem-yes)

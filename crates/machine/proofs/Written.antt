@@ -14,10 +14,11 @@ use mir.Facts.{sfits-toZ}
 use borrow.Author.Tests.{ltb-true}
 use Rattle.faults.specs.Numbers.{badShift, outOfRange, notRun}
 use Rattle.int64.specs.Int as I
+use Rattle.mask.specs.Mask.{maskOf}
 use Rattle.int64.specs.declared.Op as IntOp
 use Rattle.int64.specs.declared.Op.the-variants as IO
-use Rattle.int64.specs.declared.bits.Arith.the-variants as B
-use Rattle.int64.proofs.Laws.{floor-is}
+use Rattle.exact.specs.declared.Arith.the-variants as B
+use Rattle.int64.proofs.Answers.{floor-is}
 use Rattle.float.specs.declared.Op as FloatOp
 use Rattle.float.specs.declared.Op.the-variants as FO
 use Rattle.insns.specs.declared.op.Bare.{Bare}
@@ -64,8 +65,8 @@ unfolding rawOf
 raws z s = picks (eqb (ofZ w64 z) 1) (record { back = tt }) (picks (eqb (ofZ w64 z) 5) (record { back = tt }) (picks (eqb (ofZ w64 z) 9) (record { back = tt }) (record { back = record { sfits = lt-of-le-of-lt (mag-shr z 4) (s .sfits) } })))
 
 masks : (lo len : ℕ) → Held (mask lo len)
-unfolding I.maskOf
-masks lo len = record { back = sfits-toZ {w = w64} {n = I.maskOf lo len} (record { fits = mod-lt (2 ^ lo * (2 ^ len - 1)) (lit< tt) }) }
+unfolding maskOf
+masks lo len = record { back = sfits-toZ {w = w64} {n = maskOf lo len} (record { fits = mod-lt (2 ^ lo * (2 ^ len - 1)) (lit< tt) }) }
 
 -- a literal is no larger than an Int's result may be
 sums-imm : (i : IntOp.Op) (f : FloatOp.Op) (v : Datum) (z : ℤ) → ((a : ℤ) → Held (fromInt (I.operate i a z))) → Held (arithOf i f v (int z))

@@ -1,4 +1,5 @@
 // One step: the word at a position is decoded, and its effect carried out.
+use answer::Answer;
 use bits::magnitude;
 use decode::Decoded;
 use decode::decode;
@@ -6,7 +7,6 @@ use effect::Effect;
 use effect::effect_of;
 use effect::room;
 use insns::op::Disp;
-use ops::Answer;
 use value::value::Value;
 use value::value::kind_of;
 use value::value::payload_of;

@@ -15,10 +15,10 @@ use borrow.Author.Tests.{ltb-true, eqb-true, ne-eqb, lt-ltb, leb-true}
 use Rattle.insns.specs.declared.op.Sense.the-variants as Sense
 use Rattle.value.specs.Value.{Datum, nil, bool, int, float}
 use Rattle.ops.specs.Ops.{Result, is, fault, truth as yes, isNumber, standing, Standing, stands, apart, judged, mixed, compareNumbers, compareOthers, compareOf, same, notOf, negate, eqOf, neOf, binaryOf}
-use Rattle.int64.specs.Int.{maskOf}
-use Rattle.int64.specs.Order.{orderZ, isEqual}
-use Rattle.int64.specs.Order as Order
-use Rattle.int64.specs.declared.Cmp.the-variants.{Eq, Ne}
+use Rattle.mask.specs.Mask.{maskOf}
+use Rattle.order.specs.Order.{orderZ, isEqual}
+use Rattle.order.specs.Order as Order
+use Rattle.order.specs.declared.Cmp.the-variants.{Eq, Ne}
 use Rattle.effect.specs.Effect as M
 use Rattle.table.specs.Tree.{Arith, bitAnd, bitOr, bitXor, lshift, rshift, add, sub, mul, div, mod′, Cmp, eq, ne, lt, le, gt, ge}
 use Rattle.eval.specs.Eval as E

@@ -15,8 +15,8 @@ use Rattle.insns.specs.declared.op.Imm40.{Imm40}
 use Rattle.insns.specs.declared.op.Shift.{Shift}
 use Rattle.insns.specs.declared.op.Shift.the-variants as Shift
 use Rattle.insns.specs.declared.op.Sense.the-variants as Sense
-use Rattle.int64.specs.declared.Cmp.{Cmp as ValueCmp}
-use Rattle.int64.specs.declared.Cmp.the-variants as VC
+use Rattle.order.specs.declared.Cmp.{Cmp as ValueCmp}
+use Rattle.order.specs.declared.Cmp.the-variants as VC
 use Rattle.value.specs.Value.{Datum}
 use Rattle.value.specs.Value as Val
 use Rattle.ops.specs.Ops.{Result, is, fault, negate, isNumber, Standing, stands, apart, standing, judged, mixed, mirror as exchanged, compareNumbers, compareOthers, compareOf, same as sameDatum}

@@ -1,5 +1,4 @@
 -- Laws that belong to no one function.
-pub mod Answers
 pub mod Closed
 pub mod Plain
 pub mod Comparing

@@ -10,13 +10,14 @@ use mir.ValLaws.{toZ-ofZ}
 use borrow.Author.Tests.{ltb-true}
 use Rattle.faults.specs.Numbers.{overflow}
 use Rattle.int64.specs.Int as I
-use Rattle.int64.specs.Order.{orderZ, holds}
+use Rattle.order.specs.Order.{orderZ, holds}
 use Rattle.int64.specs.declared.Op as IntOp
-use Rattle.int64.specs.declared.bits.Arith.{Arith}
-use Rattle.int64.specs.declared.bits.Arith.the-variants as B
-use Rattle.int64.specs.declared.Cmp.{Cmp}
-use Rattle.float.specs.Binary64 as F
-use Rattle.float.specs.Binary64.{read}
+use Rattle.exact.specs.declared.Arith.{Arith}
+use Rattle.exact.specs.declared.Arith.the-variants as B
+use Rattle.order.specs.declared.Cmp.{Cmp}
+use Rattle.float.specs.Float as F
+use Rattle.float_order.specs.FloatOrder.{order}
+use Rattle.float.specs.Float.{read}
 use Rattle.float.specs.declared.Op as FloatOp
 use Rattle.float.specs.declared.Op.the-variants as FO
 use Rattle.value.specs.Value.{int, float, payloadOf}
@@ -80,7 +81,7 @@ pub int-compare : (c : Cmp) (a b : ℤ) → compareOf c (int a) (int b) ≡ trut
 unfolding compareOf isNumber compareNumbers
 int-compare c a b = refl
 
-pub float-compare : (c : Cmp) (p q : ℕ) → compareOf c (float p) (float q) ≡ truth (holds c (F.order (read p) (read q)))
+pub float-compare : (c : Cmp) (p q : ℕ) → compareOf c (float p) (float q) ≡ truth (holds c (order (read p) (read q)))
 unfolding compareOf isNumber compareNumbers
 float-compare c p q = refl
 

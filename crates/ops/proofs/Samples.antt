@@ -2,11 +2,12 @@
 use mathlib.Core.Path.{_≡_, refl}
 use mathlib.Core.Bool.{true, false}
 use lib.IntN.{pos, negsuc}
-use Rattle.float.specs.Binary64 as F
+use Rattle.float.specs.Float as F
+use Rattle.float_order.specs.FloatOrder.{order}
 use Rattle.value.specs.Value.{nil, bool, int, float}
 use Rattle.faults.specs.Numbers.{wrongKind, overflow, notExact, badShift}
 use Rattle.int64.specs.Int as I
-use Rattle.int64.specs.Order.{orderZ, holds}
+use Rattle.order.specs.Order.{orderZ, holds}
 use Rattle.ops.specs.Ops.{is, fault, isNumber, ofNumbers, fromInt, converted, floats, asFloats, arithOf, standing, judged, mixed, compareNumbers, compareOthers, compareOf, same, addOf, minusOf, divOf, wholeOf, remOf, shlOf, shrOf, ltOf, leOf, eqOf}
 
 -- case 10: Minus of -2^63
@@ -16,16 +17,16 @@ least = refl
 
 -- case 4: a NaN is below nothing, and nothing is below it or equal
 nan-lt : ltOf (float 0x7ff8000000000000) (int (pos 1)) ≡ is (bool false)
-unfolding compareOf isNumber compareNumbers mixed standing judged holds orderZ F.order F.read F.ofInt F.rounded F.halvings F.toNearest I.withSign
+unfolding compareOf isNumber compareNumbers mixed standing judged holds orderZ order F.read F.ofInt F.rounded F.halvings F.toNearest I.withSign
 nan-lt = refl
 
 nan-ge : leOf (int (pos 1)) (float 0x7ff8000000000000) ≡ is (bool false)
-unfolding compareOf isNumber compareNumbers mixed standing judged holds orderZ F.order F.read F.ofInt F.rounded F.halvings F.toNearest I.withSign
+unfolding compareOf isNumber compareNumbers mixed standing judged holds orderZ order F.read F.ofInt F.rounded F.halvings F.toNearest I.withSign
 nan-ge = refl
 
 -- -0 is +0
 zeros : eqOf (float 0x8000000000000000) (float 0) ≡ is (bool true)
-unfolding compareOf isNumber compareNumbers mixed standing judged holds orderZ F.order F.read F.ofInt F.rounded F.halvings F.toNearest I.withSign
+unfolding compareOf isNumber compareNumbers mixed standing judged holds orderZ order F.read F.ofInt F.rounded F.halvings F.toNearest I.withSign
 zeros = refl
 
 -- the order of faults: a wrong kind before a large Int
@@ -55,7 +56,7 @@ unfolding wholeOf fromInt I.operate I.shl I.shr I.rem I.remainder I.floor I.nega
 too-far = refl
 
 equal : eqOf (int (pos 1)) (float 0x3ff0000000000000) ≡ is (bool true)
-unfolding compareOf isNumber compareNumbers mixed standing judged holds orderZ F.order F.read F.ofInt F.rounded F.halvings F.toNearest I.withSign
+unfolding compareOf isNumber compareNumbers mixed standing judged holds orderZ order F.read F.ofInt F.rounded F.halvings F.toNearest I.withSign
 equal = refl
 
 unlike : eqOf nil (int (pos 0)) ≡ is (bool false)

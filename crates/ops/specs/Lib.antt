@@ -1,3 +1,2 @@
 -- What the contracts of `ops` cite.
 pub mod Ops
-pub mod Seen

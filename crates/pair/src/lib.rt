@@ -1,7 +1,7 @@
 // The evaluator and the machine side by side: a table is evaluated, and words are run on the same registers.
+use answer::Answer;
 use eval::evaluate;
 use machine::run::Ran;
-use ops::Answer;
 use runner::run;
 ghost use Rattle.ops.specs.Ops.{resultOf};
 ghost use Rattle.machine.specs.Run.{out};

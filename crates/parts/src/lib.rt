@@ -36,19 +36,19 @@ pub struct Parts {
 fn imm16(imm: Imm16) -> u64
     ensures { λ r. ⌜ r ≡ ofZ w64 (imm .n) ⌝ }
 {
-    int64::pattern(imm.n as i64)
+    sign::pattern(imm.n as i64)
 }
 
 fn imm40(imm: Imm40) -> u64
     ensures { λ r. ⌜ r ≡ ofZ w64 (imm .raw) ⌝ }
 {
-    int64::pattern(imm.raw)
+    sign::pattern(imm.raw)
 }
 
 fn disp(disp: Disp) -> u64
     ensures { λ r. ⌜ r ≡ ofZ w64 (disp .by) ⌝ }
 {
-    int64::pattern(disp.by as i64)
+    sign::pattern(disp.by as i64)
 }
 
 fn of(opcode: u8, a: u64, b: u64, c: u64, d: u64, e: u64) -> Parts

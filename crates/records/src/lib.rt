@@ -6,8 +6,8 @@ ghost use Rattle.ops.specs.Ops.{resultOf};
 ghost use Rattle.codegen.specs.Compile.{Compiles};
 ghost use Rattle.records.specs.Records.{flattened, checkNodes, evaluateNodes, compileNodes};
 ghost use Rattle.records.specs.Copy.{copiedOf, put};
+use answer::Answer;
 use codegen::compile::Compiled;
-use ops::Answer;
 use table::Dest;
 
 // A node of a table: the four words of document 01, by name.

@@ -2,9 +2,9 @@
 use machine::run::Ran;
 use machine::step::Stepped;
 use machine::step::step;
+use pairs::all_well;
 use quick::quick::NOT_TAKEN;
 use quick::quick::quick_step;
-use value::pairs::all_well;
 ghost use mathlib.Core.Path.{_≡_};
 ghost use lib.ListN.{length};
 ghost use Prim.Native.Nat.{_<_, _≤_, _^_};

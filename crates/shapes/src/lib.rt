@@ -96,9 +96,9 @@ fn bits_of(s: Shape, p: u64) -> u64
 {
     match s {
         Shape::Plain(_) => p,
-        Shape::Twos(h) => signed_bits(int64::signed(p), h),
+        Shape::Twos(h) => signed_bits(sign::signed(p), h),
         Shape::Raw => raw_bits(Imm40 {
-            raw: int64::signed(p),
+            raw: sign::signed(p),
         }),
     }
 }

@@ -14,9 +14,10 @@ use Rattle.decode.specs.Decode as Decode
 use Rattle.patch.specs.Patch as Patch
 use Rattle.value.specs.Value as Val
 use Rattle.ops.specs.Ops as Ops
-use Rattle.int64.specs.Order as Order
+use Rattle.order.specs.Order as Order
 use Rattle.int64.specs.Int as I
-use Rattle.float.specs.Binary64 as F
+use Rattle.float.specs.Float as F
+use Rattle.float_order.specs.FloatOrder.{order}
 use Rattle.eval.specs.Eval as Eval
 use Rattle.eval.specs.Evaluate as Evaluate
 use Rattle.emit.specs.State as State
@@ -69,5 +70,5 @@ lent =
     }
 
 pub applied : Ended None 2 2 made kinds payloads (Val.int (pos 2)) (Run.runOf (made .words) [] [] 4 0 kinds payloads)
-unfolding Faults.fault Faults._or-else_ Table.tempBase Table.arity Table.children Table.spanFault Table.nodeFault Table.nodesFault Table.shapeFault Table.layoutFault Table.destFault Table.lastFault Table.checkOf Tree.kindOf Tree.build Tree.treeAt Tree.tree Val.ofPair Val.allWell Val.datums Ops.isNumber Ops.ofNumbers Ops.fromInt Ops.arithOf Ops.standing Ops.judged Ops.mixed Ops.compareNumbers Ops.compareOf Ops.notOf Order.holds I.inRange I.checked I.exact I.arith I.operate F.read F.halvings F.toNearest F.rounded F.order F.ofInt Eval.leafOf Eval.unaryOf Eval.cmpOf Eval.on Eval.both Eval.whether Eval.binaryOf Eval.evalOf Evaluate.localsFault Evaluate.unless Evaluate.evaluateOf
+unfolding Faults.fault Faults._or-else_ Table.tempBase Table.arity Table.children Table.spanFault Table.nodeFault Table.nodesFault Table.shapeFault Table.layoutFault Table.destFault Table.lastFault Table.checkOf Tree.kindOf Tree.build Tree.treeAt Tree.tree Val.ofPair Val.allWell Val.datums Ops.isNumber Ops.ofNumbers Ops.fromInt Ops.arithOf Ops.standing Ops.judged Ops.mixed Ops.compareNumbers Ops.compareOf Ops.notOf Order.holds I.inRange I.checked I.exact I.arith I.operate F.read F.halvings F.toNearest F.rounded order F.ofInt Eval.leafOf Eval.unaryOf Eval.cmpOf Eval.on Eval.both Eval.whether Eval.binaryOf Eval.evalOf Evaluate.localsFault Evaluate.unless Evaluate.evaluateOf
 applied = correct choice 2 0 None 2 made accepted kinds payloads [] [] 4 lent

@@ -9,7 +9,7 @@ use lib.Dec.{leb, ltb, eqb}
 use lib.Pow.{pow-add}
 use borrow.Author.Needs.{needs}
 use borrow.Author.Tests.{le-ltb, le-leb, lt-leb, ne-eqb}
-use Rattle.float.specs.Binary64.{read, fin, rest, sign, units, scaled, isNan, infinity}
+use Rattle.binary64.specs.Binary64.{read, fin, rest, sign, units, scaled, isNan, infinity}
 use Rattle.text.specs.Real.{Exactly, Equals, ExactlyIs}
 use Rattle.text.specs.declared.real.Real.{Real}
 use Rattle.text.specs.declared.real.Real.the-variants.{Is, NoNumber, TooLarge, Inexact}

@@ -2,7 +2,7 @@
 use Prim.Native.Nat.{ℕ, _*_, _^_}
 use mathlib.Core.Path.{_≡_}
 use mathlib.Core.Bool.{Bool}
-use Rattle.float.specs.Binary64.{read, fin}
+use Rattle.binary64.specs.Binary64.{read, fin}
 use Rattle.text.specs.declared.real.Real.{Real}
 use Rattle.text.specs.declared.real.Real.the-variants.{Is, NoNumber, TooLarge, Inexact}
 

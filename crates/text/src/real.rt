@@ -1,7 +1,7 @@
 // Decimals that are a float exactly.
 ghost use mathlib.Core.Path.{_≡_};
 ghost use Prim.Native.Nat.{_*_, _^_, _<_, _≤_};
-ghost use Rattle.float.specs.Binary64.{read, fin};
+ghost use Rattle.binary64.specs.Binary64.{read, fin};
 ghost use Rattle.text.specs.Real.{Exactly, ExactlyIs};
 use crate::number::Read;
 use crate::number::digits_after;

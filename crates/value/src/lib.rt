@@ -1,3 +1,2 @@
 // Values and their lent form.
-pub mod pairs;
 pub mod value;

@@ -1,5 +1,5 @@
 // Replays operators on lent values, and writes what they answer; tools/oracle/README.md has the layout.
-use ops::Answer;
+use answer::Answer;
 use value::value::Lent;
 use value::value::Value;
 
@@ -9,9 +9,9 @@ fn apply(kind: u64, a: Value, b: Value) -> Answer {
         return ops::minus(a);
     }
     if kind == 7 {
-        return ops::not(a);
+        return negate::not(a);
     }
-    ops::binary::binary(kind, a, b)
+    ops::binary(kind, a, b)
 }
 
 // The pair as a value. A kind that no byte holds is none: `byte_of` makes it 255.

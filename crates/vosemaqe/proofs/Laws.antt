@@ -5,7 +5,7 @@ use Prim.Native.Nat.{ℕ}
 use Rattle.table.specs.declared.Dest.{Dest}
 use Rattle.table.specs.Table.{checkOf}
 use Rattle.ops.specs.Ops.{Result, resultOf}
-use Rattle.ops.specs.declared.Answer.{Answer}
+use Rattle.answer.specs.declared.Answer.{Answer}
 use Rattle.codegen.specs.Compile as C
 use Rattle.codegen.specs.Compile.{compileOf}
 use Rattle.codegen.specs.declared.compile.Compiled.{Compiled}

@@ -43,9 +43,9 @@ use Rattle.front.specs.Front.{evaluateFront}
 use Rattle.records.specs.declared.Node.{Node}
 use Rattle.records.proofs.Node as T
 use Rattle.ops.specs.Ops.{resultOf}
-use Rattle.ops.specs.declared.Answer.{Answer}
-use Rattle.ops.proofs.Answer as Ans
-use Rattle.ops.proofs.Answer.Laws as Ans′
+use Rattle.answer.specs.declared.Answer.{Answer}
+use Rattle.answer.proofs.Answer as Ans
+use Rattle.answer.proofs.Answer.Laws as Ans′
 use Rattle.records.proofs.Fills.{length-flattened, evaluate-is}
 use Rattle.records.proofs.Flattens as Flat
 use Rattle.records.proofs.Flattens.{Flatten, Words, words, lends-to, comes-from}

@@ -1,0 +1,3 @@
+-- What the contracts of `answer` cite.
+pub mod Answer
+pub mod Seen

@@ -1,0 +1,2 @@
+-- What the contracts of `arith` cite.
+pub mod Arith

@@ -1,0 +1,2 @@
+-- What the contracts of `binary64` cite.
+pub mod Binary64

@@ -1,0 +1,2 @@
+-- What the contracts of `descend` cite.
+pub mod Descend

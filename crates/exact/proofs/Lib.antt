@@ -1,0 +1,2 @@
+-- The laws of sums, differences and products.
+pub mod Laws

@@ -1,0 +1,2 @@
+-- What the contracts of `exact` cite.
+pub mod Exact

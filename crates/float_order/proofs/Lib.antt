@@ -1,0 +1,2 @@
+-- From the kit's comparisons (`lib.Ieee`) to `specs/FloatOrder`.
+pub mod Orders

@@ -1,0 +1,2 @@
+-- What the contract of `float_order` cites.
+pub mod FloatOrder

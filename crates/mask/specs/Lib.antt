@@ -1,0 +1,2 @@
+-- What the contract of `mask` cites.
+pub mod Mask

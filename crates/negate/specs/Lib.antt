@@ -1,0 +1,2 @@
+-- What the contracts of `negate` cite.
+pub mod Negate

@@ -1,0 +1,2 @@
+-- The laws of order.
+pub mod Laws

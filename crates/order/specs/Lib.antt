@@ -1,0 +1,2 @@
+-- What the contract of `order` cites.
+pub mod Order

@@ -1,0 +1,3 @@
+-- The laws of a number and its pattern.
+pub mod Laws
+pub mod Casts

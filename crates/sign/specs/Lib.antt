@@ -1,0 +1,2 @@
+-- What the contracts of `sign` cite.
+pub mod Sign
