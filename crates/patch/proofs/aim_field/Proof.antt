@@ -1,6 +1,6 @@
 -- `patch::aim_field` meets its contract: the field's number, or one past it. Assumes nothing.
 use borrow.Author.Needs.{needs}
-use Rattle.insns.proofs.Sign.{widens}
+use Rattle.bits.proofs.Sign.{widens}
 use Rattle.patch.proofs.Field.{sum-fits, product-fits, numbers}
 use Rattle.patch.proofs.aim_field.Statement.{statement}
 use Rattle.patch.proofs.aim_field.Tie as tie
