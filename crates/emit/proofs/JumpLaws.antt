@@ -13,7 +13,6 @@ use borrow.Author.Tests.{lt-ltb, eq-eqb, ne-eqb}
 use Rattle.faults.specs.Numbers.{noRoom}
 use Rattle.insns.specs.declared.Made.{Made}
 use Rattle.insns.specs.declared.op.Op.{Op}
-use Rattle.insns.specs.declared.op.Sense.the-variants as Sense
 use Rattle.insns.specs.Insns.{madeOf}
 use Rattle.patch.specs.declared.Patched.{Patched}
 use Rattle.patch.specs.Patch.{Patching, patchOf, patchAll, patchedNumber}
@@ -23,9 +22,8 @@ use Rattle.emit.specs.declared.state.Ans.the-variants.{Got, No}
 use Rattle.emit.specs.declared.state.Jumps.{Jumps}
 use Rattle.emit.specs.declared.state.Jumps.the-variants as J
 use Rattle.emit.specs.declared.fold.How.{How}
-use Rattle.emit.specs.declared.fold.How.the-variants as How
 use Rattle.emit.specs.State.{Res, done, fail, bind, State, here, withWords, storeD, emitD, patchedD, patchD, patchesD, leapD}
-use Rattle.emit.specs.Steps.{toPatch, jmpOp, loadOp, rawTrue, rawFalse, howOp, leapTo, junctionTo, turnD, trueD, boolD}
+use Rattle.emit.specs.Steps.{jmpOp, loadOp, rawTrue, rawFalse, howOp, leapTo, junctionTo, turnD, trueD, boolD}
 use Rattle.emit.specs.Read.{Bufs, bufs, stOf, freed, Fit, FitAns, Says, Steps, After, Jumping, AfterJumping, patchedAns, Counted, Joinable, Joined}
 use Rattle.emit.proofs.Laws.{go, stop, kept, says-by, passed, came, fit-free}
 
@@ -68,17 +66,10 @@ leap-go op room got free m h t k fit =
     let q = h t k (fit-free free (rw got at fit)) in
     record { same = q .same ∙ rw (got, m, free); fit = q .fit }
 
-module _ {how : How} (a : ℕ) {r : Made} where
-  pub how-arm : {arm : How} → how ≡ arm → r ≡ madeOf (howOp arm a) → r ≡ madeOf (howOp how a)
-  how-arm e h = rw e h
+pub how-arm : {how arm : How} (a : ℕ) {r : Made} → how ≡ arm → r ≡ madeOf (howOp arm a) → r ≡ madeOf (howOp how a)
+how-arm a e h = rw e h
 
-  pub how-yes : {s : Bool} → how ≡ How.Bool s → s ≡ true → r ≡ madeOf (Op.If Sense.Yes a toPatch) → r ≡ madeOf (howOp how a)
-  how-yes e g h = rw (e, g) h
-
-  pub how-no : {s : Bool} → how ≡ How.Bool s → s ≡ false → r ≡ madeOf (Op.If Sense.No a toPatch) → r ≡ madeOf (howOp how a)
-  how-no e g h = rw (e, g) h
-
-pub ruleset leaps = (jump-none, jump-made, jump-refused, leap-stop, leap-go, how-arm, how-yes, how-no)
+pub ruleset leaps = (jump-none, jump-made, jump-refused, leap-stop, leap-go, how-arm)
 
 -- ---- patching
 

@@ -8,23 +8,18 @@ use Rattle.value.specs.Value.{Datum}
 use Rattle.value.specs.Value as Val
 use Rattle.table.specs.Tree.{Leaf, nil, yep, nope, int, float, ref}
 use Rattle.insns.specs.declared.op.Op.{Op}
-use Rattle.insns.specs.declared.op.Disp.{Disp}
 use Rattle.insns.specs.declared.op.Imm40.{Imm40}
 use Rattle.insns.specs.declared.op.Two.the-variants as Two
 use Rattle.insns.specs.declared.op.Slot.the-variants as Slot
 use Rattle.insns.specs.declared.op.Three.{Three}
-use Rattle.insns.specs.declared.op.Sense.the-variants as Sense
 use Rattle.insns.specs.declared.op.Cmp.{Cmp}
+pub use Rattle.made.specs.Made.{toPatch, senseOf}
 use Rattle.emit.specs.declared.state.Dst.{Dst}
 use Rattle.emit.specs.declared.fold.Tail.{Tail}
 use Rattle.emit.specs.declared.fold.How.{How}
 use Rattle.emit.specs.declared.fold.How.the-variants as How
 use Rattle.emit.specs.State.{Res, done, fail, bind, State, here, release, destD, slotD, emitD, patchD, patchesD, jumpD}
 use Rattle.emit.specs.Fold.{fitsImm40, tailOp}
-
--- branches are emitted with this displacement, and patched
-abbrev pub toPatch : Disp
-toPatch = record { by = pos 0 }
 
 abbrev pub jmpOp : Op
 jmpOp = Op.Jmp toPatch
@@ -86,7 +81,7 @@ moveTo d mark x = cond (eqb (x .0) d) (done (d, release mark (x .1))) (emitD (Op
 
 -- a branch that tests one register
 abbrev pub howOp : How → ℕ → Op
-howOp (How.Bool sense) a = Op.If (cond sense Sense.Yes Sense.No) a toPatch
+howOp (How.Bool sense) a = Op.If (senseOf sense) a toPatch
 howOp (How.Imm c n) a = Op.JumpImm c a n toPatch
 
 -- the last value is in the register x .0: its registers are released, and the branch follows

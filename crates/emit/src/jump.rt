@@ -9,13 +9,9 @@ use crate::word::RAW_TRUE;
 use crate::word::emit;
 use crate::word::emit_jmp;
 use crate::word::emit_load;
-use insns::Insn;
 use insns::Made;
-use insns::encode::encode;
 use insns::op::Cmp;
-use insns::op::Disp;
 use insns::op::Imm40;
-use insns::op::Op;
 use patch::Patched;
 ghost use mathlib.Core.Path.{_≡_};
 ghost use Prim.Native.Nat.{_+_, _≤_};
@@ -47,16 +43,9 @@ fn jump(code: &mut [u64], jumps: &mut [u64], made: Made, st: St) -> Jumps
 fn how_word(how: How, a: u16) -> Made
     ensures { λ r. ⌜ r ≡ madeOf (howOp how a) ⌝ }
 {
-    let to = Disp { by: 0 };
     match how {
-        How::Bool(sense) => {
-            if sense {
-                Insn::if_true(a, to)
-            } else {
-                Insn::if_false(a, to)
-            }
-        }
-        How::Imm(cmp, n) => encode(Op::JumpImm(cmp, a, n, to)),
+        How::Bool(sense) => made::test(sense, a),
+        How::Imm(cmp, n) => made::jump_imm(cmp, a, n),
     }
 }
 
@@ -75,12 +64,7 @@ pub fn jump_pair(code: &mut [u64], jumps: &mut [u64], cmp: Cmp, a: u16, top: u16
     ensures { λ r. ⌜ AfterJumping (now (code .entry)) (now (code .exit)) (now (jumps .exit)) y r (pairTo cmp a (length (now (jumps .entry))) top) ⌝ }
 {
     match y {
-        Ans::Got(b, s) => jump(
-            code,
-            jumps,
-            encode(Op::Jump(cmp, a, b, Disp { by: 0 })),
-            free_to(s, top),
-        ),
+        Ans::Got(b, s) => jump(code, jumps, made::jump(cmp, a, b), free_to(s, top)),
         Ans::No(f) => Jumps::No(f),
     }
 }

@@ -7,14 +7,11 @@ use crate::state::dest;
 use crate::state::free_to;
 use insns::Insn;
 use insns::Made;
-use insns::encode::encode;
 use insns::encode::shift_op;
 use insns::encode::shift_word;
 use insns::encode::three_op;
 use insns::encode::three_word;
-use insns::op::Disp;
 use insns::op::Imm40;
-use insns::op::Op;
 use insns::op::Three;
 ghost use mathlib.Core.Path.{_≡_};
 ghost use Rattle.insns.specs.Insns.{madeOf};
@@ -58,14 +55,14 @@ pub fn emit(code: &mut [u64], made: Made, d: u16, st: St) -> Ans
 pub fn emit_load(code: &mut [u64], raw: Imm40, d: u16, st: St) -> Ans
     ensures { λ r. ⌜ Steps (now (code .entry)) (now (code .exit)) st r (emitD (Op.LoadImm40 d raw) d) ⌝ }
 {
-    emit(code, Insn::load_imm40(d, raw), d, st)
+    emit(code, made::load_imm40(d, raw), d, st)
 }
 
 // A jump whose displacement is to be patched.
 pub fn emit_jmp(code: &mut [u64], d: u16, st: St) -> Ans
     ensures { λ r. ⌜ Steps (now (code .entry)) (now (code .exit)) st r (emitD jmpOp d) ⌝ }
 {
-    emit(code, Insn::jmp(Disp { by: 0 }), d, st)
+    emit(code, made::jmp(), d, st)
 }
 
 // An immediate, in the register that is asked for.
@@ -84,7 +81,7 @@ fn tail_word(tail: Tail, d: u16, a: u16) -> Made
 {
     match tail {
         Tail::Not => Insn::not(d, a),
-        Tail::Imm(op, n) => encode(Op::Arith(op, d, a, n)),
+        Tail::Imm(op, n) => made::arith(op, d, a, n),
         Tail::Shift(op, k) => shift_word(shift_op(op), d, a, k),
         Tail::Mask(lo, len) => Insn::bit_and_mask(d, a, lo, len),
         Tail::ShiftMask(k, lo, len) => Insn::rshift_mask(d, a, k, lo, len),

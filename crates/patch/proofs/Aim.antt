@@ -1,4 +1,4 @@
--- Displacements, the steps by which a branch is aimed, and a list of branches patched one after the other. Assumes nothing.
+-- Displacements, and words patched: one of a list, and one after the other. Assumes nothing.
 use mathlib.Core.Path.{_≡_, refl, sym, ap, _∙_}
 use mathlib.Core.Bool.{Bool, true, false, not, cond}
 use mathlib.Core.List.{List, [], _∷_}
@@ -16,22 +16,10 @@ use mir.Val.{SFits, toZ, ofZ}
 use mir.Facts.{toZ-ofZ}
 use mir.ValLaws.{toZ-pos}
 use Rattle.insns.proofs.Sign.{back}
-use Rattle.insns.specs.Insns.{madeOf}
-use Rattle.insns.specs.declared.Made.{Made}
-use Rattle.insns.specs.declared.op.Disp.{Disp}
-use Rattle.insns.specs.declared.op.Op.{Op}
-use Rattle.decode.specs.Decode.{decodeOf}
-use Rattle.patch.specs.Patch.{difference, reachOf, pickReach, branchOf, branchBy, aimedMade, aimedReach, aimedBranching, aimedDecoded, aimWord, Patching, putAimed, pickPatching, patchOf, patchAll, isDone}
-use Rattle.decode.specs.declared.Decoded.{Decoded}
+use Rattle.patch.specs.Patch.{difference, reachOf, pickReach, aimWord, Patching, putAimed, pickPatching, patchOf, patchAll, isDone}
 use Rattle.patch.specs.declared.Reach.{Reach}
-use Rattle.patch.specs.declared.Branch.{Branch}
-use Rattle.patch.specs.declared.Branching.{Branching}
 use Rattle.patch.specs.declared.Aimed.{Aimed}
 use Rattle.patch.specs.declared.Patched.{Patched}
-
--- an arm of a `match`: it knows that x is y
-pub known : {A B : Type 0} (f : A → B) {x y : A} {r : B} → x ≡ y → r ≡ f y → r ≡ f x
-known f k q = q ∙ ap f (sym k)
 
 -- ---- displacements
 
@@ -92,20 +80,6 @@ module _ (at t : ℕ) (a : at < 2305843009213693952) (l : t < 461168601842738790
     far-by h = far-off at t (omega (arith, mag-is))
 
 pub ruleset displacements = (past-62, d-fits, near-by, far-by)
-
--- ---- a branch is aimed
-
-pub aimed : (b : Branch) (disp : Disp) {m n : Made} {j : Op} → m ≡ madeOf j → j ≡ branchBy b disp → m ≡ n → aimedMade n ≡ aimedReach b (Reach.By disp)
-aimed b disp p q k = ap aimedMade (sym k ∙ p ∙ ap madeOf q)
-
-module _ (w at t : ℕ) {d : Decoded} (q : d ≡ decodeOf w) where
-  pub undecoded : d ≡ Decoded.Bad → Aimed.Undecoded ≡ aimWord w at t
-  unfolding aimWord
-  undecoded k = ap (λ (x : Decoded). aimedDecoded x (reachOf at t)) (sym k ∙ q)
-
-  pub decoded : {i : Op} {x : Branching} → d ≡ Decoded.Is i → x ≡ branchOf i → aimedBranching x (reachOf at t) ≡ aimWord w at t
-  unfolding aimWord
-  decoded k e = ap (λ (y : Branching). aimedBranching y (reachOf at t)) e ∙ ap (λ (y : Decoded). aimedDecoded y (reachOf at t)) (sym k ∙ q)
 
 -- ---- a word of a list is patched
 

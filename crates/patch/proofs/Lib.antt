@@ -1,4 +1,5 @@
 -- Laws of patching.
 pub mod Aim
 pub mod Facts
+pub mod Field
 pub mod Samples

@@ -1,2 +1,3 @@
 -- What the contracts of patching cite.
+pub mod Field
 pub mod Patch

@@ -1,18 +1,18 @@
 // Aiming a branch word at a target.
 use decode::Decoded;
 use decode::decode;
-use insns::Made;
-use insns::encode::encode;
+use insns::Insn;
 use insns::fields::magnitude;
+use insns::fields::signed_bits;
 use insns::op::Cmp;
 use insns::op::Disp;
 use insns::op::Imm16;
-use insns::op::Op;
 use insns::op::Sense;
 ghost use mathlib.Core.Path.{_≡_};
-ghost use Prim.Native.Nat.{_<_, _^_};
-ghost use Rattle.insns.specs.Insns.{madeOf};
-ghost use Rattle.patch.specs.Patch.{reachOf, branchOf, branchBy, aimedReach, aimWord, patchOf, isDone, patchAll};
+ghost use Prim.Native.Nat.{_%_, _<_, _≤_, _^_};
+ghost use Rattle.decode.specs.Decode.{decodeOf};
+ghost use Rattle.patch.specs.Field.{Place, aimField, unaimed};
+ghost use Rattle.patch.specs.Patch.{reachOf, aimedDecoded, aimWord, patchOf, isDone, patchAll};
 
 // A displacement, if 32 bits hold it.
 pub enum Reach {
@@ -52,7 +52,7 @@ pub enum Patched {
 }
 
 // target - at - 1, if 32 bits hold it. A target of 2^62 or more is too far from every position in a slice.
-pub fn displacement(at: u64, target: u64) -> Reach
+fn displacement(at: u64, target: u64) -> Reach
     requires { ⌜ at < 2 ^ 61 ⌝ }
     ensures { λ r. ⌜ r ≡ reachOf at target ⌝ }
 {
@@ -60,77 +60,83 @@ pub fn displacement(at: u64, target: u64) -> Reach
         return Reach::Far;
     }
     let d = (target as i64) - ((at + 1) as i64);
-    if magnitude(d) < 2147483648 {
+    if magnitude(d) < HALF_32 {
         return Reach::By(Disp { by: d as i32 });
     }
     Reach::Far
 }
 
-pub fn branch_of(i: Op) -> Branching
-    ensures { λ r. ⌜ r ≡ branchOf i ⌝ }
-{
-    match i {
-        Op::Bare(_) => Branching::No,
-        Op::LoadImm40(_, _) => Branching::No,
-        Op::Two(_, _, _) => Branching::No,
-        Op::Slot(_, _, _) => Branching::No,
-        Op::Three(_, _, _, _) => Branching::No,
-        Op::Shift(_, _, _, _) => Branching::No,
-        Op::BitAndMask(_, _, _, _) => Branching::No,
-        Op::RshiftMask(_, _, _, _, _) => Branching::No,
-        Op::Arith(_, _, _, _) => Branching::No,
-        Op::ClosNew(_, _, _) => Branching::No,
-        Op::ClosSet(_, _, _) => Branching::No,
-        Op::ClosGet(_, _) => Branching::No,
-        Op::One(_, _) => Branching::No,
-        Op::Wide(_, _, _, _) => Branching::No,
-        Op::If(k, val, _) => Branching::Is(Branch::If(k, val)),
-        Op::Jump(k, a, b, _) => Branching::Is(Branch::Jump(k, a, b)),
-        Op::JumpImm(k, a, imm, _) => Branching::Is(Branch::JumpImm(k, a, imm)),
-        Op::Jmp(_) => Branching::Is(Branch::Jmp),
-        Op::Call(_, _, _, _) => Branching::No,
-        Op::CallHost(_, _, _) => Branching::No,
-        Op::ById(_, _, _, _) => Branching::No,
-        Op::CallMethodHost(_, _, _, _) => Branching::No,
-        Op::RetImm40(_) => Branching::No,
-    }
-}
+// The displacements that the two fields hold: -HALF to HALF - 1 of each.
+const HALF_24: u64 = 8388608;
 
-pub fn branch_by(b: Branch, disp: Disp) -> Op
-    ensures { λ r. ⌜ r ≡ branchBy b disp ⌝ }
-{
-    match b {
-        Branch::If(k, val) => Op::If(k, val, disp),
-        Branch::Jump(k, a, c) => Op::Jump(k, a, c, disp),
-        Branch::JumpImm(k, a, imm) => Op::JumpImm(k, a, imm, disp),
-        Branch::Jmp => Op::Jmp(disp),
-    }
-}
+const HALF_32: u64 = 2147483648;
 
-// A displacement that the branch's own field does not hold is too far too.
-pub fn aim_branch(b: Branch, r: Reach) -> Aimed
-    ensures { λ a. ⌜ a ≡ aimedReach b r ⌝ }
+// What one of the displacement's field is worth in the word: above the opcode, above one register, above two operands.
+const AFTER_OPCODE: u64 = 256;
+
+const AFTER_ONE: u64 = 16777216;
+
+const AFTER_TWO: u64 = 1099511627776;
+
+// The word of a branch whose bits below the displacement's field are `low`. A displacement that the field does not hold is too far too.
+fn aim_field(low: u64, place: u64, half: u64, r: Reach) -> Aimed
+    requires { ⌜ Place low place half ⌝ }
+    ensures { λ a. ⌜ a ≡ aimField low place half r ⌝ }
 {
     let Reach::By(disp) = r else {
         return Aimed::TooFar;
     };
-    let Made::Fits(w) = encode(branch_by(b, disp)) else {
-        return Aimed::TooFar;
-    };
-    Aimed::To(w.bits)
+    let n = signed_bits(disp.by as i64, half);
+    if n < 2 * half {
+        return Aimed::To(low + place * n);
+    }
+    Aimed::TooFar
 }
 
-pub fn aim_word(w: u64, at: u64, target: u64) -> Aimed
+// A word of a branch's opcode: it decodes where nothing stands above its fields.
+fn aim_branch(w: u64, r: Reach) -> Aimed
+    requires { ⌜ (43 ≤ w % 256) × (w % 256 ≤ 65) ⌝ }
+    ensures { λ a. ⌜ a ≡ aimedDecoded (decodeOf w) r ⌝ }
+{
+    let op = (w % 256) as u8;
+    if op <= Insn::IF_FALSE {
+        if w / AFTER_ONE < 2 * HALF_32 {
+            return aim_field(w % AFTER_ONE, AFTER_ONE, HALF_32, r);
+        }
+        return Aimed::Undecoded;
+    }
+    if op <= Insn::JNGE_IMM16 {
+        return aim_field(w % AFTER_TWO, AFTER_TWO, HALF_24, r);
+    }
+    if w / AFTER_OPCODE < 2 * HALF_32 {
+        return aim_field(w % AFTER_OPCODE, AFTER_OPCODE, HALF_32, r);
+    }
+    Aimed::Undecoded
+}
+
+// A word of any other opcode: 10 or 11.
+fn no_branch(w: u64) -> Aimed
+    ensures { λ r. ⌜ r ≡ unaimed (decodeOf w) ⌝ }
+{
+    match decode(w) {
+        Decoded::Is(_) => Aimed::NotBranch,
+        Decoded::Bad => Aimed::Undecoded,
+    }
+}
+
+// A word is aimed as the number that it is. The opcodes of the branches stand together, from if_true to jmp.
+fn aim_word(w: u64, at: u64, target: u64) -> Aimed
     requires { ⌜ at < 2 ^ 61 ⌝ }
     ensures { λ r. ⌜ r ≡ aimWord w at target ⌝ }
 {
-    let Decoded::Is(i) = decode(w) else {
-        return Aimed::Undecoded;
-    };
-    let Branching::Is(b) = branch_of(i) else {
-        return Aimed::NotBranch;
-    };
-    aim_branch(b, displacement(at, target))
+    let op = (w % 256) as u8;
+    if op < Insn::IF_TRUE {
+        return no_branch(w);
+    }
+    if Insn::JMP < op {
+        return no_branch(w);
+    }
+    aim_branch(w, displacement(at, target))
 }
 
 // Aims the branch at a position at a target. One word is changed, or none.

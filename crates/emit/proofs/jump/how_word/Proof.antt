@@ -10,9 +10,7 @@ how-word-spec =
     (tie.spec
     (λ c. search needs)
     (λ c κs. search needs)
-    (λ c κs. search needs)
     (λ c. search needs)
     (λ c κs. search needs)
-    (λ c. search (leaps, needs))
     (λ c. search (leaps, needs))
     (λ c. search (leaps, needs)))

@@ -1,0 +1,2 @@
+-- Laws of the words that the generator makes.
+pub mod Words
