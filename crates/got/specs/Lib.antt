@@ -1,0 +1,2 @@
+-- What the contracts of `got` cite.
+pub mod Got
