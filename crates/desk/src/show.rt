@@ -13,9 +13,9 @@ use crate::say::say_place;
 use crate::why::first_at_fault;
 use crate::why::get;
 use crate::why::say_why;
-use codegen::compile::Compiled;
 use machine::run::Ran;
 use ops::Answer;
+use report::Compiled;
 use table::Dest;
 ghost use Prim.Native.Nat.{_<_, _≤_};
 
