@@ -1,10 +1,10 @@
 // The machine and the evaluator side by side: a table is compiled and evaluated, and its words are run.
 use answer::Answer;
-use codegen::compile::Compiled;
 use codegen::compile::compile;
 use eval::evaluate;
 use machine::run::Ran;
 use pair::evaluate_and_run;
+use report::Compiled;
 use table::Dest;
 ghost use Prim.Native.Nat.{_<_, _^_};
 ghost use lib.ListN.{length};

@@ -14,8 +14,8 @@ use crate::why::first_at_fault;
 use crate::why::get;
 use crate::why::say_why;
 use answer::Answer;
-use codegen::compile::Compiled;
 use machine::run::Ran;
+use report::Compiled;
 use table::Dest;
 ghost use Prim.Native.Nat.{_<_, _≤_};
 

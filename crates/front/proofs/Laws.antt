@@ -18,8 +18,9 @@ use Rattle.table.specs.declared.Dest.{Dest}
 use Rattle.ops.specs.Ops.{Result, fault as faulted}
 use Rattle.eval.specs.Evaluate.{unless, evaluateOf}
 use Rattle.emit.specs.State.{fail}
-use Rattle.codegen.specs.Compile.{Compiles, compileOf}
-use Rattle.codegen.specs.declared.compile.Compiled.{Compiled}
+use Rattle.codegen.specs.Compile.{compileOf}
+use Rattle.report.specs.Report.{Compiles}
+use Rattle.report.specs.declared.Compiled.{Compiled}
 use Rattle.front.specs.Front.{roomFault, checkFront, evaluateFront, compileFront}
 
 -- ---- the room for so many records

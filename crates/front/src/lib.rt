@@ -1,12 +1,12 @@
 // The word table's routines over the front of lent words: the first n records of four words each. Records that are too many for a table, or for
 // the words lent, are refused.
 use answer::Answer;
-use codegen::compile::Compiled;
+use report::Compiled;
 use table::Dest;
 ghost use mathlib.Core.Path.{_≡_};
 ghost use lib.ListN.{length};
 ghost use Rattle.ops.specs.Ops.{resultOf};
-ghost use Rattle.codegen.specs.Compile.{Compiles};
+ghost use Rattle.report.specs.Report.{Compiles};
 ghost use Rattle.front.specs.Front.{roomFault, checkFront, evaluateFront, compileFront};
 
 // Of so many records into so many words: 1 where the records are too many for any table, 7 where the words have no room for them.
@@ -67,7 +67,7 @@ pub fn compile_front(
 {
     let f = room_fault(n, words.len());
     if f != faults::NONE {
-        return codegen::compile::refuse(f, code, kinds, payloads);
+        return report::refuse(f, code, kinds, payloads);
     }
     codegen::compile::compile(&words[..4 * n], params, locals, dest, code, kinds, payloads)
 }
