@@ -1,20 +1,19 @@
 // An expression that was read: its words, and what the tree and the words answer.
-use crate::decimals::say_float;
+use crate::gather::put_two;
 use crate::list::list_words;
-use crate::read::Head;
-use crate::read::keep;
-use crate::read::keep_byte;
-use crate::say::say;
-use crate::say::say_bits;
-use crate::say::say_int;
-use crate::say::say_meaning;
-use crate::say::say_number;
-use crate::say::say_place;
-use crate::why::first_at_fault;
 use crate::why::get;
-use crate::why::say_why;
+use crate::why::say_where;
 use answer::Answer;
 use machine::run::Ran;
+use print::none;
+use print::one;
+use print::say;
+use print::say_value;
+use print::tell;
+use print::tell_line;
+use print::three;
+use print::two;
+use reader::head::Head;
 use report::Compiled;
 use table::Dest;
 ghost use Prim.Native.Nat.{_<_, _≤_};
@@ -61,77 +60,65 @@ fn base_of(h: Head) -> u64 {
     18446744073709551615
 }
 
-// A value, as a pair of kind and payload.
-fn say_value(kind: u8, payload: u64) {
-    match kind {
-        0 => say(b"nil"),
-        1 => {
-            if payload == 0 {
-                say(b"false");
-            } else {
-                say(b"true");
-            }
-        }
-        2 => {
-            say(b"int ");
-            say_int(payload);
-        }
-        _ => {
-            say(b"float ");
-            say_bits(payload);
-            say(b" (");
-            say_float(payload);
-            say(b")");
-        }
+// The meaning of a number that a caller can get back, and the line's end.
+fn say_meaning(n: u8) {
+    if n < 20 {
+        tell_line(
+            b": no number of the table\n\
+              : table empty, not a multiple of 4 words, or over 4096 nodes\n\
+              : unknown kind, non-zero payload, missing child, wrong first or depth, or the last node's first is not 0\n\
+              : depth over 64\n\
+              : Ref or destination not below the base\n\
+              : parameters plus locals, or an allocation, pass 65535 registers\n\
+              : no constant slot left\n\
+              : no room for a word\n\
+              : displacement outside its field\n\
+              : an operand does not fit its field\n\
+              : a word that does not decode",
+            n as u64,
+            none(),
+        );
+    } else {
+        tell_line(
+            b": wrong kind of value\n\
+              : integer result outside 64 bits signed\n\
+              : Mod by zero\n\
+              : Int outside -2^53..2^53 meets a Float, or stands in Div\n\
+              : shift amount outside 0..63\n\
+              : budget spent\n\
+              : register, slot or taken target out of range\n\
+              : panic word\n\
+              : opcode not run here\n\
+              : ill-formed value lent",
+            (n - 20) as u64,
+            none(),
+        );
     }
-}
-
-fn say_fault(what: &[u8], n: u8) {
-    say(what);
-    say_number(n as u64);
-}
-
-fn say_what(n: u8) {
-    say(b": ");
-    say_meaning(n);
     say(b"\n");
 }
 
-// Each register that is given a value.
-fn say_values(kinds: &[u8], payloads: &[u64]) {
-    for i in 0..kinds.len() {
-        if i < payloads.len() {
-            say(b"  r");
-            say_number(i as u64);
-            say(b" = ");
-            say_value(kinds[i], payloads[i]);
-            say(b"\n");
-        }
-    }
+fn say_refused(n: u8) {
+    tell(b"refused with %", one(n as u64));
+    say_meaning(n);
 }
 
 fn say_layout(h: Head) {
-    say(b"nodes ");
-    say_number(h.nodes as u64);
-    say(b", parameters ");
-    say_number(h.params);
-    say(b", locals ");
-    say_number(locals_of(h));
+    tell(
+        b"nodes %, parameters %, locals %",
+        three(h.nodes as u64, h.params, locals_of(h)),
+    );
     if h.dest == 0 {
         say(b", no destination\n");
         return;
     }
-    say(b", destination r");
-    say_number(h.dest - 1);
-    say(b"\n");
+    tell(b", destination r%\n", one(h.dest - 1));
 }
 
-// The constants.
-fn list_slots(kinds: &[u8], payloads: &[u64]) {
+// Each pair, after its number: a register that is given a value, or a constant.
+fn list_pairs(before: &[u8], kinds: &[u8], payloads: &[u64]) {
     for i in 0..kinds.len() {
         if i < payloads.len() {
-            say_place(i as u64);
-            say(b"  ");
+            tell(before, one(i as u64));
             say_value(kinds[i], payloads[i]);
             say(b"\n");
         }
@@ -143,47 +130,52 @@ fn list(words: &[u64], slot_kinds: &[u8], slot_payloads: &[u64], register: u16, 
     list_words(words);
     if slot_kinds.len() != 0 {
         say(b"constants:\n");
-        list_slots(slot_kinds, slot_payloads);
+        list_pairs(b"&  ", slot_kinds, slot_payloads);
     }
-    say(b"result in r");
-    say_number(register as u64);
-    say(b", frame of ");
-    say_number(frame as u64);
-    say(b"\n");
+    tell(
+        b"result in r%, frame of %\n",
+        two(register as u64, frame as u64),
+    );
 }
 
 fn say_tree(a: Answer) {
-    say(b"tree:  ");
     match a {
         Answer::Is(v) => {
             say_value(value::value::kind_of(v), value::value::payload_of(v));
             say(b"\n");
         }
         Answer::Fault(n) => {
-            say_fault(b"fault ", n);
-            say_what(n);
+            tell(b"fault %", one(n as u64));
+            say_meaning(n);
         }
     }
 }
 
+// The values that are given, and the tree's answer.
+fn say_evaluated(nodes: &[u64], kinds: &[u8], payloads: &[u64], h: Head) {
+    let n = within(h.values, kinds.len());
+    say(b"values:\n");
+    list_pairs(b"  r% = ", &kinds[..n], payloads);
+    say(b"tree:  ");
+    say_tree(eval::evaluate(nodes, h.params, locals_of(h), &kinds[..n], payloads));
+}
+
 fn say_steps(n: u64) {
-    say(b" after ");
-    say_number(n);
-    if n == 1 {
-        say(b" step");
-    } else {
-        say(b" steps");
-    }
+    tell_line(
+        b" after % steps\n after % step",
+        if n == 1 { 1 } else { 0 },
+        one(n),
+    );
 }
 
 fn say_run(r: Ran, kinds: &[u8], payloads: &[u64], register: usize) {
-    say(b"words: ");
     if r.number != 0 {
-        say_fault(b"fault ", r.number);
-        say(b" at word ");
-        say_number(r.position as u64);
+        tell(
+            b"fault % at word %",
+            two(r.number as u64, r.position as u64),
+        );
         say_steps(r.steps);
-        say_what(r.number);
+        say_meaning(r.number);
         return;
     }
     if register < kinds.len() {
@@ -191,60 +183,13 @@ fn say_run(r: Ran, kinds: &[u8], payloads: &[u64], register: usize) {
             say_value(kinds[register], payloads[register]);
         }
     }
-    say(b" in r");
-    say_number(register as u64);
+    tell(b" in r%", one(register as u64));
     say_steps(r.steps);
     say(b"\n");
 }
 
-// The registers from a number on are nil before a run.
-fn clear(kinds: &mut [u8], payloads: &mut [u64], from: usize) {
-    let n = kinds.len();
-    let mut i = from;
-    while i < n {
-        keep_byte(kinds, i, 0);
-        keep(payloads, i, 0);
-        i += 1;
-    }
-}
-
-// Parameters or locals without a value: the words are not run.
-fn say_not_run(h: Head) {
-    say(b"words: not run: ");
-    say_number(h.values as u64);
-    say(b" of ");
-    say_number(base_of(h));
-    say(b" registers have a value\n");
-}
-
+// The words' answer. Registers past the values are Nil before a run; without a value for each parameter and local the words are not run.
 fn run(
-    words: &[u64],
-    slot_kinds: &[u8],
-    slot_payloads: &[u64],
-    kinds: &mut [u8],
-    payloads: &mut [u64],
-    register: usize,
-    h: Head,
-) {
-    if (h.values as u64) < base_of(h) {
-        say_not_run(h);
-        return;
-    }
-    let r = runner::run(
-        words,
-        0,
-        kinds,
-        payloads,
-        slot_kinds,
-        slot_payloads,
-        h.budget,
-    );
-    say_run(r, kinds, payloads, register);
-}
-
-// The tree's answer and the words', for the registers that are given.
-fn answers(
-    nodes: &[u64],
     words: &[u64],
     slot_kinds: &[u8],
     slot_payloads: &[u64],
@@ -254,74 +199,90 @@ fn answers(
     frame: u16,
     h: Head,
 ) {
-    let params = h.params;
-    let locals = locals_of(h);
-    let nk = within(h.values, kinds.len());
-    let np = within(h.values, payloads.len());
-    say(b"values:\n");
-    say_values(&kinds[..nk], &payloads[..np]);
-    say_tree(eval::evaluate(nodes, params, locals, &kinds[..nk], &payloads[..np]));
-    clear(kinds, payloads, h.values);
-    let fk = within(frame as usize, kinds.len());
-    let fp = within(frame as usize, payloads.len());
-    run(
+    let n = within(frame as usize, kinds.len());
+    say(b"words: ");
+    if (h.values as u64) < base_of(h) {
+        tell(
+            b"not run: % of % registers have a value\n",
+            two(h.values as u64, base_of(h)),
+        );
+        return;
+    }
+    let r = runner::run(
         words,
+        0,
+        &mut kinds[..n],
+        payloads,
         slot_kinds,
         slot_payloads,
-        &mut kinds[..fk],
-        &mut payloads[..fp],
-        register as usize,
-        h,
+        h.budget,
     );
+    say_run(r, kinds, payloads, register as usize);
 }
 
-fn compiled(
+// What compiling gave, as numbers: words, constants, register and frame, or the number of a refusal.
+struct Out {
+    number: u8,
+    words: usize,
+    slots: usize,
+    register: u16,
+    frame: u16,
+}
+
+fn out_of(c: Compiled) -> Out {
+    match c {
+        Compiled::Done(words, slots, register, frame) => Out {
+            number: faults::NONE,
+            words: words,
+            slots: slots,
+            register: register,
+            frame: frame,
+        },
+        Compiled::Refused(n) => Out {
+            number: n,
+            words: 0,
+            slots: 0,
+            register: 0,
+            frame: 0,
+        },
+    }
+}
+
+// What compiling gave, and what the tree and the words answer.
+fn outcome(
+    o: Out,
     nodes: &[u64],
-    code: &mut [u64],
-    slot_kinds: &mut [u8],
-    slot_payloads: &mut [u64],
+    words: &[u64],
+    slot_kinds: &[u8],
+    slot_payloads: &[u64],
     kinds: &mut [u8],
     payloads: &mut [u64],
     h: Head,
 ) {
-    let c = codegen::compile::compile(
-        nodes,
-        h.params,
-        locals_of(h),
-        dest_of(h.dest),
-        code,
-        slot_kinds,
-        slot_payloads,
-    );
-    match c {
-        Compiled::Done(words, slots, register, frame) => {
-            let w = within(words, code.len());
-            let k = within(slots, slot_kinds.len());
-            let p = within(slots, slot_payloads.len());
-            list(
-                &code[..w],
-                &slot_kinds[..k],
-                &slot_payloads[..p],
-                register,
-                frame,
-            );
-            answers(
-                nodes,
-                &code[..w],
-                &slot_kinds[..k],
-                &slot_payloads[..p],
-                kinds,
-                payloads,
-                register,
-                frame,
-                h,
-            );
-        }
-        Compiled::Refused(n) => {
-            say_fault(b"refused with ", n);
-            say_what(n);
-        }
+    if o.number != faults::NONE {
+        say_refused(o.number);
+        return;
     }
+    let w = within(o.words, words.len());
+    let k = within(o.slots, slot_kinds.len());
+    list(
+        &words[..w],
+        &slot_kinds[..k],
+        slot_payloads,
+        o.register,
+        o.frame,
+    );
+    say_evaluated(nodes, kinds, payloads, h);
+    run(
+        &words[..w],
+        &slot_kinds[..k],
+        slot_payloads,
+        kinds,
+        payloads,
+        o.register,
+        o.frame,
+        h,
+    );
 }
 
 // The words, in room for those of every accepted table.
@@ -329,43 +290,25 @@ fn compile(nodes: &[u64], kinds: &mut [u8], payloads: &mut [u64], h: Head) {
     let mut code = [0u64; WORDS];
     let mut slot_kinds = [0u8; SLOTS];
     let mut slot_payloads = [0u64; SLOTS];
-    compiled(
+    let c = codegen::compile::compile(
         nodes,
+        h.params,
+        locals_of(h),
+        dest_of(h.dest),
         &mut code,
         &mut slot_kinds,
         &mut slot_payloads,
+    );
+    outcome(
+        out_of(c),
+        nodes,
+        &code,
+        &slot_kinds,
+        &slot_payloads,
         kinds,
         payloads,
         h,
     );
-}
-
-// Where a table is at fault, as the refusal's second line.
-fn say_place_of(nodes: &[u64], marks: &[u64], base: u64, i: usize)
-    requires { ⌜ i < 4611686018427387904 ⌝ }
-{
-    say(b"  at node ");
-    say_number(i as u64);
-    say(b", line ");
-    say_number(get(marks, 4 * i + 3));
-    say(b": ");
-    say_why(nodes, marks, base, i);
-    say(b"\n");
-}
-
-// The node at fault, if it is a node that is; else what is.
-fn say_where(nodes: &[u64], marks: &[u64], base: u64, dest: u64) {
-    let n = nodes.len() / 4;
-    if base < dest {
-        say(b"  the destination is at fault\n");
-        return;
-    }
-    let i = first_at_fault(nodes, marks, base);
-    if i < n {
-        say_place_of(nodes, marks, base, i);
-        return;
-    }
-    say(b"  the last node does not take in all nodes before it\n");
 }
 
 // The first and depth of node i that were given, in place of those that its children give.
@@ -373,8 +316,12 @@ fn put_mark(nodes: &mut [u64], marks: &[u64], i: usize)
     requires { ⌜ i < 4611686018427387904 ⌝ }
 {
     if get(marks, 4 * i) == 1 {
-        keep(nodes, 4 * i + 2, get(marks, 4 * i + 1));
-        keep(nodes, 4 * i + 3, get(marks, 4 * i + 2));
+        put_two(
+            nodes,
+            4 * i + 2,
+            get(marks, 4 * i + 1),
+            get(marks, 4 * i + 2),
+        );
     }
 }
 
@@ -387,32 +334,20 @@ fn put_given(nodes: &mut [u64], marks: &[u64]) {
     }
 }
 
-// A text that cannot be read.
-fn say_trouble(h: Head) {
-    say(b"line ");
-    say_number(h.trouble_line);
-    say(b": ");
-    let t = h.trouble;
-    match t {
-        1 => say(b"no kind of node, and no other word that a line can begin with"),
-        2 => say(b"this is no number"),
-        3 => say(b"64 bits do not hold this number (an Int lies from -2^63 to 2^63 - 1)"),
-        4 => say(
-            b"no float is equal to this decimal: give the pattern of the one that is meant, as 0x3fb999999999999a",
-        ),
-        5 => say(b"a number is missing"),
-        6 => say(b"there is more on this line than is read"),
-        7 => say(b"first and depth are given together, or not at all"),
-        8 => say(b"a value is nil, true, false, int N or float X"),
-        _ => say(b"more than 65535 values"),
+// The number of the check of a table that is completed, with the first and depth that were given. One that is refused is completed again.
+fn number_of(nodes: &mut [u64], marks: &[u64], h: Head) -> u8 {
+    shape::complete(nodes);
+    put_given(nodes, marks);
+    let n = checks::check(nodes, h.params, locals_of(h), dest_of(h.dest));
+    if n != faults::NONE {
+        shape::complete(nodes);
     }
-    say(b"\n");
+    n
 }
 
 // The number of the check, and for 2, 3 and 4 what is at fault.
 fn refuse(n: u8, nodes: &[u64], marks: &[u64], h: Head) {
-    say_fault(b"refused with ", n);
-    say_what(n);
+    say_refused(n);
     if n < faults::BAD_NODE {
         return;
     }
@@ -422,25 +357,43 @@ fn refuse(n: u8, nodes: &[u64], marks: &[u64], h: Head) {
     say_where(nodes, marks, base_of(h), h.dest);
 }
 
-// The check of the table with the first and depth that were given.
-fn number_of(nodes: &mut [u64], marks: &[u64], h: Head) -> u8 {
-    put_given(nodes, marks);
-    checks::check(nodes, h.params, locals_of(h), dest_of(h.dest))
+// A text that cannot be read.
+fn say_trouble(h: Head) {
+    tell(b"line %", one(h.trouble_line));
+    tell_line(
+        b"\n\
+          : no kind of node, and no other word that a line can begin with\n\
+          : this is no number\n\
+          : 64 bits do not hold this number (an Int lies from -2^63 to 2^63 - 1)\n\
+          : no float is equal to this decimal: give the pattern of the one that is meant, as 0x3fb999999999999a\n\
+          : a number is missing\n\
+          : there is more on this line than is read\n\
+          : first and depth are given together, or not at all\n\
+          : a value is nil, true, false, int N or float X\n\
+          : more than 65535 values",
+        h.trouble,
+        none(),
+    );
+    say(b"\n");
 }
 
-// All of an expression: the table is completed; what was given is put in place; a refusal says where, by the completed table.
+// A table that could be read.
+fn show_table(nodes: &mut [u64], marks: &[u64], kinds: &mut [u8], payloads: &mut [u64], h: Head) {
+    say_layout(h);
+    let n = number_of(nodes, marks, h);
+    if n != faults::NONE {
+        refuse(n, nodes, marks, h);
+        return;
+    }
+    compile(nodes, kinds, payloads, h);
+}
+
+// All of an expression.
 pub fn show(nodes: &mut [u64], marks: &[u64], kinds: &mut [u8], payloads: &mut [u64], h: Head) {
     if h.trouble != 0 {
         say_trouble(h);
         return;
     }
-    say_layout(h);
-    text::shape::complete(nodes);
-    let n = number_of(nodes, marks, h);
-    if n != faults::NONE {
-        text::shape::complete(nodes);
-        refuse(n, nodes, marks, h);
-        return;
-    }
-    compile(nodes, kinds, payloads, h);
+    let room = within(4 * within(h.nodes, 4097), nodes.len());
+    show_table(&mut nodes[..room], marks, kinds, payloads, h);
 }

@@ -1,7 +1,12 @@
 // Why a table is refused: the first node at fault, and what is at fault there. The number is the check's own; this finds the place.
 ghost use Prim.Native.Nat.{_<_};
-use crate::say::say;
-use crate::say::say_number;
+use print::Numbers;
+use print::four;
+use print::one;
+use print::say;
+use print::tell;
+use print::tell_line;
+use print::two;
 
 // What is at fault at a node; 0 where nothing is.
 const KIND: u64 = 1;
@@ -16,12 +21,39 @@ const DEEP: u64 = 5;
 
 const REGISTER: u64 = 6;
 
+// What is known of a node: what the completed table has, and what a line gave.
+struct Seen {
+    kind: u64,
+    payload: u64,
+    first: u64,
+    depth: u64,
+    given: u64,
+    first_given: u64,
+    depth_given: u64,
+    line: u64,
+}
+
 // What stands at a position; 0 past the end.
 pub fn get(a: &[u64], at: usize) -> u64 {
     if at < a.len() {
         return a[at];
     }
     0
+}
+
+fn look(nodes: &[u64], marks: &[u64], i: usize) -> Seen
+    requires { ⌜ i < 4611686018427387904 ⌝ }
+{
+    Seen {
+        kind: get(nodes, 4 * i),
+        payload: get(nodes, 4 * i + 1),
+        first: get(nodes, 4 * i + 2),
+        depth: get(nodes, 4 * i + 3),
+        given: get(marks, 4 * i),
+        first_given: get(marks, 4 * i + 1),
+        depth_given: get(marks, 4 * i + 2),
+        line: get(marks, 4 * i + 3),
+    }
 }
 
 // A kind that is known, and a payload that the kind has.
@@ -35,73 +67,52 @@ fn why_kind(k: u64, p: u64) -> u64 {
     if k < table::INT {
         return PAYLOAD;
     }
-    if table::REF < k {
-        return PAYLOAD;
-    }
-    0
+    if table::REF < k { PAYLOAD } else { 0 }
 }
 
 // The first and depth that were given are those that the children give.
-fn why_given(f: u64, d: u64, given: u64, first: u64, depth: u64) -> u64 {
-    if d == 0 {
+fn why_given(s: Seen) -> u64 {
+    if s.depth == 0 {
         return CHILD;
     }
-    if given != 1 {
+    if s.given != 1 {
         return 0;
     }
-    if first != f {
+    if s.first_given != s.first {
         return GIVEN;
     }
-    if depth != d {
-        return GIVEN;
-    }
-    0
+    if s.depth_given != s.depth { GIVEN } else { 0 }
 }
 
-fn why_limit(k: u64, p: u64, d: u64, base: u64) -> u64 {
-    if faults::MAX_DEPTH < d {
+fn why_limit(s: Seen, base: u64) -> u64 {
+    if faults::MAX_DEPTH < s.depth {
         return DEEP;
     }
-    if k != table::REF {
+    if s.kind != table::REF {
         return 0;
     }
-    if base <= p {
-        return REGISTER;
-    }
-    0
+    if base <= s.payload { REGISTER } else { 0 }
 }
 
-// What is at fault at node i of a completed table.
-fn why_node(nodes: &[u64], marks: &[u64], base: u64, i: usize) -> u64
-    requires { ⌜ i < 4611686018427387904 ⌝ }
-{
-    let k = get(nodes, 4 * i);
-    let p = get(nodes, 4 * i + 1);
-    let f = get(nodes, 4 * i + 2);
-    let d = get(nodes, 4 * i + 3);
-    let a = why_kind(k, p);
+// What is at fault at a node of a completed table.
+fn why(s: Seen, base: u64) -> u64 {
+    let a = why_kind(s.kind, s.payload);
     if a != 0 {
         return a;
     }
-    let b = why_given(
-        f,
-        d,
-        get(marks, 4 * i),
-        get(marks, 4 * i + 1),
-        get(marks, 4 * i + 2),
-    );
+    let b = why_given(s);
     if b != 0 {
         return b;
     }
-    why_limit(k, p, d, base)
+    why_limit(s, base)
 }
 
 // The first node at fault of a completed table; the number of nodes where there is none.
-pub fn first_at_fault(nodes: &[u64], marks: &[u64], base: u64) -> usize {
+fn first_at_fault(nodes: &[u64], marks: &[u64], base: u64) -> usize {
     let n = nodes.len() / 4;
     let mut i = 0;
     while i < n {
-        if why_node(nodes, marks, base, i) != 0 {
+        if why(look(nodes, marks, i), base) != 0 {
             return i;
         }
         i += 1;
@@ -109,49 +120,45 @@ pub fn first_at_fault(nodes: &[u64], marks: &[u64], base: u64) -> usize {
     n
 }
 
-fn say_two(a: &[u8], x: u64, b: &[u8], y: u64) {
-    say(a);
-    say_number(x);
-    say(b);
-    say_number(y);
-}
-
-fn say_given(nodes: &[u64], marks: &[u64], i: usize)
-    requires { ⌜ i < 4611686018427387904 ⌝ }
-{
-    say_two(
-        b"first ",
-        get(marks, 4 * i + 1),
-        b" and depth ",
-        get(marks, 4 * i + 2),
-    );
-    say_two(
-        b" are given, and its children give ",
-        get(nodes, 4 * i + 2),
-        b" and ",
-        get(nodes, 4 * i + 3),
-    );
-}
-
-// What is at fault at node i.
-pub fn say_why(nodes: &[u64], marks: &[u64], base: u64, i: usize)
-    requires { ⌜ i < 4611686018427387904 ⌝ }
-{
-    let k = get(nodes, 4 * i);
-    let p = get(nodes, 4 * i + 1);
-    match why_node(nodes, marks, base, i) {
-        KIND => {
-            say(b"no kind has the number ");
-            say_number(k);
-        }
-        PAYLOAD => say_two(b"kind ", k, b" has no payload, and here it is ", p),
-        CHILD => say(b"a child is missing: too few nodes stand before it"),
-        GIVEN => say_given(nodes, marks, i),
-        DEEP => {
-            say(b"its depth is ");
-            say_number(get(nodes, 4 * i + 3));
-        }
-        REGISTER => say_two(b"register ", p, b" is not below the base, ", base),
-        _ => say(b"nothing is at fault there"),
+// The numbers that the text of a fault has.
+fn numbers(w: u64, s: Seen, base: u64) -> Numbers {
+    match w {
+        KIND => one(s.kind),
+        PAYLOAD => two(s.kind, s.payload),
+        GIVEN => four(s.first_given, s.depth_given, s.first, s.depth),
+        DEEP => one(s.depth),
+        _ => two(s.payload, base),
     }
+}
+
+// What is at fault at a node, as the refusal's second line.
+fn say_place(i: usize, s: Seen, base: u64) {
+    let w = why(s, base);
+    tell(b"  at node %, line %: ", two(i as u64, s.line));
+    tell_line(
+        b"nothing is at fault there\n\
+          no kind has the number %\n\
+          kind % has no payload, and here it is %\n\
+          a child is missing: too few nodes stand before it\n\
+          first % and depth % are given, and its children give % and %\n\
+          its depth is %\n\
+          register % is not below the base, %",
+        w,
+        numbers(w, s, base),
+    );
+    say(b"\n");
+}
+
+// The node at fault, if it is a node that is; else what is.
+pub fn say_where(nodes: &[u64], marks: &[u64], base: u64, dest: u64) {
+    if base < dest {
+        say(b"  the destination is at fault\n");
+        return;
+    }
+    let i = first_at_fault(nodes, marks, base);
+    if i < nodes.len() / 4 {
+        say_place(i, look(nodes, marks, i), base);
+        return;
+    }
+    say(b"  the last node does not take in all nodes before it\n");
 }

@@ -114,25 +114,6 @@ fn lend(
     );
 }
 
-fn fill(
-    nw: u64,
-    words: &mut [u64],
-    nk: u64,
-    kinds: &mut [u8],
-    np: u64,
-    payloads: &mut [u64],
-    nsk: u64,
-    slot_kinds: &mut [u8],
-    nsp: u64,
-    slot_payloads: &mut [u64],
-) {
-    wire::read_words(words, nw);
-    wire::read_bytes(kinds, nk);
-    wire::read_words(payloads, np);
-    wire::read_bytes(slot_kinds, nsk);
-    wire::read_words(slot_payloads, nsp);
-}
-
 // What was read is run, as much of each as was announced.
 fn serve(
     nw: u64,
@@ -170,13 +151,7 @@ fn serve(
     );
 }
 
-fn replay(
-    words: &mut [u64],
-    kinds: &mut [u8],
-    payloads: &mut [u64],
-    slot_kinds: &mut [u8],
-    slot_payloads: &mut [u64],
-) {
+fn replay() {
     let nw = wire::read_word();
     let entry = wire::read_word();
     let end = wire::read_word();
@@ -186,50 +161,37 @@ fn replay(
     let np = wire::read_word();
     let nsk = wire::read_word();
     let nsp = wire::read_word();
-    fill(
-        nw,
-        words,
-        nk,
-        kinds,
-        np,
-        payloads,
-        nsk,
-        slot_kinds,
-        nsp,
-        slot_payloads,
-    );
-    serve(
-        nw,
-        words,
-        entry,
-        end,
-        start,
-        budget,
-        nk,
-        kinds,
-        np,
-        payloads,
-        nsk,
-        slot_kinds,
-        nsp,
-        slot_payloads,
-    );
-}
-
-fn main() {
     let mut words = [0u64; WORDS];
     let mut kinds = [0u8; PAIRS];
     let mut payloads = [0u64; PAIRS];
     let mut slot_kinds = [0u8; PAIRS];
     let mut slot_payloads = [0u64; PAIRS];
+    wire::read_words(&mut words, nw);
+    wire::read_bytes(&mut kinds, nk);
+    wire::read_words(&mut payloads, np);
+    wire::read_bytes(&mut slot_kinds, nsk);
+    wire::read_words(&mut slot_payloads, nsp);
+    serve(
+        nw,
+        &words,
+        entry,
+        end,
+        start,
+        budget,
+        nk,
+        &mut kinds,
+        np,
+        &mut payloads,
+        nsk,
+        &slot_kinds,
+        nsp,
+        &slot_payloads,
+    );
+}
+
+fn main() {
     let n = wire::read_word();
     for _ in 0..n {
-        replay(
-            &mut words,
-            &mut kinds,
-            &mut payloads,
-            &mut slot_kinds,
-            &mut slot_payloads,
-        );
+        replay();
     }
 }

@@ -3,23 +3,11 @@ use bits::magnitude;
 use decode::Decoded;
 use insns::Insn;
 use insns::Made;
-use insns::encode::arith_op;
-use insns::encode::bare_op;
-use insns::encode::by_id_op;
-use insns::encode::call_op;
-use insns::encode::if_op;
-use insns::encode::jump_imm_op;
-use insns::encode::jump_op;
-use insns::encode::one_op;
-use insns::encode::shift_op;
-use insns::encode::slot_op;
-use insns::encode::three_op;
-use insns::encode::two_op;
-use insns::encode::wide_op;
 use insns::op::Disp;
 use insns::op::Imm16;
 use insns::op::Imm40;
-use insns::op::Op;
+use parts::Parts;
+use parts::parts_of;
 use patch::Patched;
 
 // An operand of a record as each type. The signed ones are sign-extended to 64 bits.
@@ -223,30 +211,6 @@ fn construct(op: u64, x1: u64, x2: u64, x3: u64, x4: u64, x5: u64) -> Made {
     call_word(k, x1, x2, x3, x4)
 }
 
-// A signed operand of a decoded instruction.
-enum Signed {
-    Imm16(Imm16),
-    Imm40(Imm40),
-    Disp(Disp),
-}
-
-// The two's complement of z in 64 bits.
-fn extended(z: i64) -> u64 {
-    let n = magnitude(z);
-    if z < 0 {
-        return 18446744073709551615 - n;
-    }
-    n
-}
-
-fn bits_of(s: Signed) -> u64 {
-    match s {
-        Signed::Imm16(imm) => extended(imm.n as i64),
-        Signed::Imm40(imm) => extended(imm.raw),
-        Signed::Disp(disp) => extended(disp.by as i64),
-    }
-}
-
 // An answer: a number and up to six more.
 fn write_row(n: u64, a: u64, b: u64, c: u64, d: u64, e: u64, f: u64) {
     wire::write_word(n);
@@ -263,143 +227,9 @@ fn wide(op: u8) -> u64 {
     op as u64
 }
 
-// A row of a decoded instruction.
-fn write_op_row(op: u8, b: u64, c: u64, d: u64, e: u64, f: u64) {
-    write_row(0, wide(op), b, c, d, e, f);
-}
-
 // The opcode of a decoded instruction and its operands in declared order.
-fn write_op(i: Op) {
-    match i {
-        Op::Bare(k) => write_op_row(bare_op(k), 0, 0, 0, 0, 0),
-        Op::LoadImm40(dst, imm) => write_op_row(
-            Insn::LOAD_IMM40,
-            dst as u64,
-            bits_of(Signed::Imm40(imm)),
-            0,
-            0,
-            0,
-        ),
-        Op::Two(k, dst, src) => write_op_row(two_op(k), dst as u64, src as u64, 0, 0, 0),
-        Op::Slot(k, dst, slot) => write_op_row(slot_op(k), dst as u64, slot as u64, 0, 0, 0),
-        Op::Three(k, dst, a, b) => write_op_row(three_op(k), dst as u64, a as u64, b as u64, 0, 0),
-        Op::Shift(k, dst, a, shift) => write_op_row(
-            shift_op(k),
-            dst as u64,
-            a as u64,
-            shift as u64,
-            0,
-            0,
-        ),
-        Op::BitAndMask(dst, a, lo, len) => write_op_row(
-            Insn::BIT_AND_MASK,
-            dst as u64,
-            a as u64,
-            lo as u64,
-            len as u64,
-            0,
-        ),
-        Op::RshiftMask(dst, a, shift, lo, len) => write_op_row(
-            Insn::RSHIFT_MASK,
-            dst as u64,
-            a as u64,
-            shift as u64,
-            lo as u64,
-            len as u64,
-        ),
-        Op::Arith(k, dst, a, imm) => write_op_row(
-            arith_op(k),
-            dst as u64,
-            a as u64,
-            bits_of(Signed::Imm16(imm)),
-            0,
-            0,
-        ),
-        Op::ClosNew(dst, fun, num) => write_op_row(
-            Insn::CLOS_NEW,
-            dst as u64,
-            fun as u64,
-            num as u64,
-            0,
-            0,
-        ),
-        Op::ClosSet(clos, src, idx) => write_op_row(
-            Insn::CLOS_SET,
-            clos as u64,
-            src as u64,
-            idx as u64,
-            0,
-            0,
-        ),
-        Op::ClosGet(dst, idx) => write_op_row(Insn::CLOS_GET, dst as u64, idx as u64, 0, 0, 0),
-        Op::One(k, dst) => write_op_row(one_op(k), dst as u64, 0, 0, 0, 0),
-        Op::Wide(k, dst, val, class) => write_op_row(
-            wide_op(k),
-            dst as u64,
-            val as u64,
-            class as u64,
-            0,
-            0,
-        ),
-        Op::If(k, val, disp) => write_op_row(
-            if_op(k),
-            val as u64,
-            bits_of(Signed::Disp(disp)),
-            0,
-            0,
-            0,
-        ),
-        Op::Jump(k, a, b, disp) => write_op_row(
-            jump_op(k),
-            a as u64,
-            b as u64,
-            bits_of(Signed::Disp(disp)),
-            0,
-            0,
-        ),
-        Op::JumpImm(k, a, imm, disp) => write_op_row(
-            jump_imm_op(k),
-            a as u64,
-            bits_of(Signed::Imm16(imm)),
-            bits_of(Signed::Disp(disp)),
-            0,
-            0,
-        ),
-        Op::Jmp(disp) => write_op_row(Insn::JMP, bits_of(Signed::Disp(disp)), 0, 0, 0, 0),
-        Op::Call(k, start, argc, cache) => write_op_row(
-            call_op(k),
-            start as u64,
-            argc as u64,
-            cache as u64,
-            0,
-            0,
-        ),
-        Op::CallHost(host, start, argc) => write_op_row(
-            Insn::CALL_HOST,
-            host as u64,
-            start as u64,
-            argc as u64,
-            0,
-            0,
-        ),
-        Op::ById(k, fun, start, argc) => write_op_row(
-            by_id_op(k),
-            fun as u64,
-            start as u64,
-            argc as u64,
-            0,
-            0,
-        ),
-        Op::CallMethodHost(start, argc, tag, cache) => write_op_row(
-            Insn::CALL_METHOD_HOST,
-            start as u64,
-            argc as u64,
-            tag as u64,
-            cache as u64,
-            0,
-        ),
-        Op::RetImm40(imm) => write_op_row(Insn::RET_IMM40, bits_of(Signed::Imm40(imm)), 0, 0, 0, 0),
-    }
+fn write_parts(p: Parts) {
+    write_row(0, p.opcode, p.a, p.b, p.c, p.d, p.e);
 }
 
 fn write_made(m: Made) {
@@ -411,7 +241,7 @@ fn write_made(m: Made) {
 
 fn write_decoded(d: Decoded) {
     match d {
-        Decoded::Is(i) => write_op(i),
+        Decoded::Is(i) => write_parts(parts_of(i)),
         Decoded::Bad => write_row(wide(faults::UNDECODED), 0, 0, 0, 0, 0, 0),
     }
 }

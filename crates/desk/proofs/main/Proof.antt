@@ -1,6 +1,5 @@
 -- `desk::main` is safe and ends. Assumes nothing.
 use Prim.Native.Nat.{_-_}
-use lib.Seq.{length-take-le}
 use borrow.Author.Needs.{needs}
 use Rattle.desk.proofs.main.Statement.{statement}
 use Rattle.desk.proofs.main.Tie as tie
@@ -17,11 +16,11 @@ main-spec =
     (tie.spec
     Inv-loop
     μ-loop
-    (λ c κs. search (length-take-le, needs))
-    (λ c κs. search (length-take-le, needs))
-    (λ c. search (length-take-le, needs))
-    (λ c κs. search (length-take-le, needs))
-    (λ c. search (length-take-le, needs))
-    (λ c. search (length-take-le, needs))
-    (λ c. search (length-take-le, needs))
-    (λ c. search (length-take-le, needs)))
+    (λ c κs. search needs)
+    (λ c κs. search needs)
+    (λ c. search needs)
+    (λ c κs. search needs)
+    (λ c. search needs)
+    (λ c. search needs)
+    (λ c. search needs)
+    (λ c. search needs))

@@ -1,4 +1,4 @@
--- `desk::list::list_words` meets its contract: the count rises to the number of words. Assumes nothing.
+-- `desk::list::list_words` is safe and ends. Assumes nothing.
 use Prim.Native.Nat.{_≤_, _-_}
 use lib.ListN.{length}
 use borrow.Author.Needs.{needs}

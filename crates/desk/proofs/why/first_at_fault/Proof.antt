@@ -1,4 +1,4 @@
--- `desk::why::first_at_fault` meets its contract of being safe and ending. Assumes nothing.
+-- `desk::why::first_at_fault` is safe and ends. Assumes nothing.
 use Prim.Native.Nat.{_≤_, _-_}
 use borrow.Author.Needs.{needs}
 use Rattle.desk.proofs.why.first_at_fault.Statement.{statement}
@@ -17,6 +17,7 @@ first-at-fault-spec =
     Inv-loop
     μ-loop
     (λ c. search needs)
+    (λ c κs. search needs)
     (λ c κs. search needs)
     (λ c. search needs)
     (λ c. search needs)

@@ -1,0 +1,2 @@
+-- The laws that the proofs of `decimal` cite.
+pub mod Factors

@@ -1,0 +1,2 @@
+-- The laws that the proofs of `numeral` cite.
+pub mod Reading

@@ -1,0 +1,2 @@
+-- What the contracts of `numeral` cite.
+pub mod Number

@@ -1,0 +1,2 @@
+-- The laws that the proofs of `shape` cite.
+pub mod Shapes

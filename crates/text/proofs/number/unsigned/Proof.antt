@@ -1,8 +1,0 @@
--- `text::number::unsigned` meets its contract: each return is a law of what stands in front. Assumes nothing.
-use Rattle.text.proofs.Digits.{readers}
-use Rattle.text.proofs.number.unsigned.Statement.{statement}
-use Rattle.text.proofs.number.unsigned.Tie as tie
-
-pub unsigned-spec : {M : Type 1} → statement M
-unsigned-spec =
-    tie.close (tie.spec (λ c κs. search readers) (λ c κs. search readers) (λ c. search readers) (λ c κs. search readers) (λ c. search readers))

@@ -1,7 +1,0 @@
--- `text::shape::first_of` meets its contract: each return is a law of the span. Assumes nothing.
-use Rattle.text.proofs.Shapes.{spans}
-use Rattle.text.proofs.shape.first_of.Statement.{statement}
-use Rattle.text.proofs.shape.first_of.Tie as tie
-
-pub first-of-spec : {M : Type 1} → statement M
-first-of-spec = tie.close (tie.spec (λ c. search spans) (λ c. search spans) (λ c. search spans) (λ c. search spans))

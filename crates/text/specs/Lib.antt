@@ -1,4 +1,0 @@
--- What the contracts of `text` cite.
-pub mod Number
-pub mod Real
-pub mod Shape
