@@ -1,5 +1,4 @@
 // Replays words: operands to a constructor, words to `decode`, branches to `patch`. Writes the answers; tools/oracle/README.md has the layout.
-use bits::magnitude;
 use decode::Decoded;
 use insns::Insn;
 use insns::Made;
