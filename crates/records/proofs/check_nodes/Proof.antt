@@ -174,4 +174,4 @@ check-nodes-spec 𝓤 H 𝓜 𝓖 𝓡 =
     (tables 𝓤 H 𝓜 𝓡 code.env .C) (tables 𝓤 H 𝓜 𝓡 code.env .Λ) #check-nodes code.function (code.unfolded 𝓤 H 𝓜 𝓡)
     (f-meets 𝓤 H (𝓖 .A) (givenOf 𝓤 H 𝓜 𝓖) (𝓜 .mem) (𝓡 .run) (tablesOf 𝓤 H 𝓜 (tables 𝓤 H 𝓜 𝓡 code.env))
     (cited 𝓤 H (Flatten 𝓤 H (𝓖 .A) (𝓜 .mem) (𝓡 .run)) 𝓜 𝓡 code.env #flatten flatten-def.routine code.calls-records·flatten (flatten-thm.met 𝓤 H 𝓜 𝓖 𝓡))
-    (cited 𝓤 H (Front 𝓤 H (𝓖 .A) (𝓜 .mem) (𝓡 .run)) 𝓜 𝓡 code.env #check-front check-front-def.routine code.calls-records·check-front (check-front-thm.met 𝓤 H 𝓜 𝓖 𝓡)))
+    (cited 𝓤 H (Front 𝓤 H (𝓖 .A) (𝓜 .mem) (𝓡 .run)) 𝓜 𝓡 code.env #check-front check-front-def.routine code.calls-front·check-front (check-front-thm.met 𝓤 H 𝓜 𝓖 𝓡)))
