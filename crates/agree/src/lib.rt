@@ -1,9 +1,9 @@
 // The machine and the evaluator side by side: a table is compiled and evaluated, and its words are run.
-use codegen::compile::Compiled;
 use codegen::compile::compile;
 use eval::evaluate;
 use machine::run::Ran;
 use ops::Answer;
+use report::Compiled;
 use runner::run;
 use table::Dest;
 ghost use Prim.Native.Nat.{_<_, _^_};

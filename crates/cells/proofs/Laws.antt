@@ -8,8 +8,8 @@ use Rattle.ops.specs.Ops.{resultOf}
 use Rattle.value.specs.declared.value.Value.{Value}
 use Rattle.ops.specs.declared.Answer.{Answer}
 use Rattle.ops.specs.declared.Answer.the-variants as A
-use Rattle.codegen.specs.declared.compile.Compiled.{Compiled}
-use Rattle.codegen.specs.declared.compile.Compiled.the-variants.{Done, Refused}
+use Rattle.report.specs.declared.Compiled.{Compiled}
+use Rattle.report.specs.declared.Compiled.the-variants.{Done, Refused}
 use Rattle.faults.specs.Numbers.{undecoded, noFit}
 use Rattle.insns.specs.declared.Insn.{Insn}
 use Rattle.insns.specs.declared.Made.{Made}

@@ -8,9 +8,9 @@ use Rattle.value.specs.Value.{kindOf, payloadOf}
 use Rattle.ops.specs.Ops as Ops
 use Rattle.ops.specs.Ops.{Result}
 use Rattle.emit.specs.State.{Res, State}
-use Rattle.codegen.specs.Compile.{answered, padded, wordsOf, kindsOf, payloadsOf}
-use Rattle.codegen.specs.declared.compile.Compiled.{Compiled}
-use Rattle.codegen.specs.declared.compile.Compiled.the-variants.{Done, Refused}
+use Rattle.report.specs.Report.{answered, padded, wordsOf, kindsOf, payloadsOf}
+use Rattle.report.specs.declared.Compiled.{Compiled}
+use Rattle.report.specs.declared.Compiled.the-variants.{Done, Refused}
 use Rattle.faults.specs.Numbers.{undecoded, noFit}
 use Rattle.insns.specs.declared.Insn.{Insn}
 use Rattle.insns.specs.declared.Made.{Made}

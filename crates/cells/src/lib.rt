@@ -1,9 +1,9 @@
 // How the answers of the crates below stand as numbers, one for each cell of a caller's: the number of the answer, and 0 in every cell wherever it is not 0.
-use codegen::compile::Compiled;
 use decode::Decoded;
 use insns::Made;
 use ops::Answer;
 use patch::Patched;
+use report::Compiled;
 use table::Dest;
 ghost use mathlib.Core.Path.{_≡_};
 ghost use Rattle.ops.specs.Ops.{resultOf};

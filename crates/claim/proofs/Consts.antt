@@ -16,15 +16,17 @@ use Rattle.table.specs.Tree.{Tree, leaf, unary, binary, ternary, Leaf, nil, yep
 use Rattle.table.specs.Tree as Tree
 use Rattle.emit.specs.declared.state.Dst.{Dst}
 use Rattle.emit.specs.declared.state.Dst.the-variants.{Any, To}
-use Rattle.emit.specs.declared.fold.Tail.{Tail}
-use Rattle.emit.specs.declared.fold.Tail.the-variants as Tail
-use Rattle.emit.specs.declared.fold.Fold.{Fold}
-use Rattle.emit.specs.declared.fold.Fold.the-variants.{Into, General}
-use Rattle.emit.specs.declared.fold.Imm.{Imm}
-use Rattle.emit.specs.declared.fold.Imm.the-variants.{Imm16, NoImm}
+use Rattle.fold.specs.declared.Tail.{Tail}
+use Rattle.fold.specs.declared.Tail.the-variants as Tail
+use Rattle.fold.specs.declared.Fold.{Fold}
+use Rattle.fold.specs.declared.Fold.the-variants.{Into, General}
+use Rattle.literal.specs.declared.Imm.{Imm}
+use Rattle.literal.specs.declared.Imm.the-variants.{Imm16, NoImm}
 use Rattle.insns.specs.declared.op.Three.{Three}
-use Rattle.emit.specs.Fold.{fitsImm40, asImm16, foldOf, threeOf}
-use Rattle.codegen.specs.Compile.{padded}
+use Rattle.literal.specs.Literal.{fitsImm40, asImm16}
+use Rattle.fold.specs.Fold.{foldOf}
+use Rattle.kinds.specs.Kinds.{threeOf}
+use Rattle.report.specs.Report.{padded}
 use Rattle.claim.specs.Claim.{Slots}
 use Rattle.meaning.proofs.Frag.{ValueF, BranchF, Frag, dReg, dNext, leafF, intF, intoF, second, operandF, arithF, compareF, condF, ternF, juncB, unaryN, binaryN, frag}
 use Rattle.claim.proofs.Pairs.{payload-low}

@@ -15,9 +15,10 @@ use Rattle.table.specs.declared.Dest.{Dest}
 use Rattle.eval.specs.Evaluate.{evaluateOf}
 use Rattle.machine.specs.Run.{Out, out, ran}
 use Rattle.emit.specs.State.{Res, done, fail, State}
-use Rattle.codegen.specs.declared.compile.Compiled.{Compiled}
-use Rattle.codegen.specs.declared.compile.Compiled.the-variants.{Done, Refused}
-use Rattle.codegen.specs.Compile.{compileOf, Compiles, answered, padded, wordsOf, kindsOf, payloadsOf}
+use Rattle.report.specs.declared.Compiled.{Compiled}
+use Rattle.report.specs.declared.Compiled.the-variants.{Done, Refused}
+use Rattle.codegen.specs.Compile.{compileOf}
+use Rattle.report.specs.Report.{Compiles, answered, padded, wordsOf, kindsOf, payloadsOf}
 use Rattle.claim.specs.Claim.{Accepted, Wide, Slots, Promised, Whole}
 use Rattle.claim.proofs.Theorem.{refusals, slots-left}
 

@@ -11,10 +11,12 @@ use Rattle.table.specs.Tree as Tree
 use Rattle.table.specs.declared.Dest.{Dest}
 use Rattle.table.specs.declared.Dest.the-variants.{None, Reg}
 use Rattle.emit.specs.declared.state.Dst.the-variants.{Any}
-use Rattle.emit.specs.declared.fold.Fold.{Fold}
-use Rattle.emit.specs.declared.fold.Fold.the-variants.{Into, General}
+use Rattle.fold.specs.declared.Fold.{Fold}
+use Rattle.fold.specs.declared.Fold.the-variants.{Into, General}
 use Rattle.insns.specs.declared.op.Three.{Three}
-use Rattle.emit.specs.Fold.{fitsImm40, foldOf, threeOf}
+use Rattle.literal.specs.Literal.{fitsImm40}
+use Rattle.fold.specs.Fold.{foldOf}
+use Rattle.kinds.specs.Kinds.{threeOf}
 use Rattle.emit.specs.State.{State}
 use Rattle.claim.specs.Claim.{Accepted, Placed, homeOf, registerOf}
 use Rattle.meaning.proofs.Frag.{Vf, ValueF, intF, arithF, frag}

@@ -28,7 +28,8 @@ use Rattle.machine.specs.declared.run.Ran.{Ran}
 use Rattle.emit.specs.declared.state.Dst.the-variants.{Any, To}
 use Rattle.emit.specs.State.{Res, done, fail, State}
 use Rattle.codegen.specs.Gen.{gen}
-use Rattle.codegen.specs.Compile.{start, dstOf, rootD, generated, accepted, compileOf, padded}
+use Rattle.codegen.specs.Compile.{start, dstOf, rootD, generated, accepted, compileOf}
+use Rattle.report.specs.Report.{padded}
 use Rattle.claim.specs.Claim.{Accepted, Values, Slots, Lent, reportOf, kindsOf, payloadsOf, Holds, Alike, Unchanged, NotDest, Kept, InDest, Agrees, Promised, Lacks, register, slot, room}
 use Rattle.meaning.proofs.Frag.{Vf, frag, intoF, NotDst}
 use Rattle.meaning.proofs.Fits.{wordsOf, AllFit, far}

@@ -18,8 +18,9 @@ use Rattle.eval.specs.Evaluate.{evaluateOf}
 use Rattle.machine.specs.Run.{Out, out, ran, runOf}
 use Rattle.machine.specs.declared.run.Ran.{Ran}
 use Rattle.emit.specs.State.{Res, done, fail, State}
-use Rattle.codegen.specs.declared.compile.Compiled.{Compiled}
-use Rattle.codegen.specs.Compile.{compileOf, Compiles}
+use Rattle.report.specs.declared.Compiled.{Compiled}
+use Rattle.codegen.specs.Compile.{compileOf}
+use Rattle.report.specs.Report.{Compiles}
 
 -- ---- what goes in
 

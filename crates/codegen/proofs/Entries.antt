@@ -13,8 +13,8 @@ use Rattle.table.specs.Table.{nodeCount, tempBase, checkOf}
 use Rattle.table.specs.Tree.{Tree, tree, size}
 use Rattle.table.proofs.Whole.{accepted as accepted-table, dest-below}
 use Rattle.value.specs.Value.{kindOf, payloadOf}
-use Rattle.codegen.specs.declared.compile.Compiled.{Compiled}
-use Rattle.codegen.specs.declared.compile.Compiled.the-variants.{Done}
+use Rattle.report.specs.declared.Compiled.{Compiled}
+use Rattle.report.specs.declared.Compiled.the-variants.{Done}
 use Rattle.emit.specs.declared.state.St.{St}
 use Rattle.emit.specs.declared.state.Dst.{Dst}
 use Rattle.emit.specs.declared.state.Dst.the-variants.{Any, To}
@@ -23,7 +23,8 @@ use Rattle.emit.specs.declared.state.Ans.the-variants.{Got, No}
 use Rattle.emit.specs.State.{Res, done, fail, State}
 use Rattle.emit.specs.Read.{Bufs, bufs, stOf, constAt, read, Fit, Says}
 use Rattle.rules.specs.Gen.{gen}
-use Rattle.codegen.specs.Compile.{padded, zeroed, start, dstOf, rootD, generated, accepted, compileOf, Root, IsRegister, Made, Compiles}
+use Rattle.codegen.specs.Compile.{start, dstOf, rootD, generated, accepted, compileOf, Root, IsRegister}
+use Rattle.report.specs.Report.{padded, zeroed, Made, Compiles}
 use Rattle.emit.proofs.Laws.{kept, says-by}
 use Rattle.rules.proofs.Room.{same-room, into-same}
 

@@ -1,6 +1,6 @@
 // Compiles node tables into lent buffers, and writes what compiling answers and leaves; tools/oracle/README.md has the layout.
 ghost use Prim.Native.Nat.{_≤_};
-use codegen::compile::Compiled;
+use report::Compiled;
 use table::Dest;
 
 // Room for the largest record.

@@ -3,7 +3,6 @@ use crate::gather::put_two;
 use crate::list::list_words;
 use crate::why::get;
 use crate::why::say_where;
-use codegen::compile::Compiled;
 use machine::run::Ran;
 use ops::Answer;
 use print::none;
@@ -15,6 +14,7 @@ use print::tell_line;
 use print::three;
 use print::two;
 use reader::head::Head;
+use report::Compiled;
 use table::Dest;
 ghost use Prim.Native.Nat.{_<_, _≤_};
 

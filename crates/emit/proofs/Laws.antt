@@ -25,9 +25,9 @@ use Rattle.emit.specs.declared.state.Dst.{Dst}
 use Rattle.emit.specs.declared.state.Dst.the-variants.{Any, To}
 use Rattle.emit.specs.declared.state.Ans.{Ans}
 use Rattle.emit.specs.declared.state.Ans.the-variants.{Got, No}
-use Rattle.emit.specs.declared.fold.Tail.{Tail}
+use Rattle.fold.specs.declared.Tail.{Tail}
 use Rattle.emit.specs.State.{Res, done, fail, bind, State, release, allocD, destD, storeD, emitD}
-use Rattle.emit.specs.Fold.{tailOp}
+use Rattle.fold.specs.Fold.{tailOp}
 use Rattle.emit.specs.Steps.{putD, putTo, moveTo}
 use Rattle.emit.specs.Read.{Bufs, bufs, stOf, freed, read, Fit, FitAns, Says, Steps, After}
 

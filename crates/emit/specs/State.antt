@@ -1,9 +1,9 @@
 -- The generator's state, and what it does to it: registers, constant slots, words, patches. A step gives an answer, or the number of a refusal.
 -- Assumes nothing: these are definitions.
-use mathlib.Core.Bool.{Bool, true, false, cond}
+use mathlib.Core.Bool.{cond}
 use mathlib.Core.List.{List, [], _∷_, _++_}
 use Prim.Native.Nat.{ℕ, _+_, max}
-use lib.Dec.{eqb, ltb}
+use lib.Dec.{ltb}
 use lib.ListN.{length}
 use Rattle.faults.specs.Numbers.{noRegister, noSlot, noRoom, noFit}
 use Rattle.faults.specs.Limits.{maxRegisters}
@@ -12,7 +12,6 @@ use Rattle.insns.specs.declared.Made.{Made}
 use Rattle.insns.specs.declared.Made.the-variants.{Fits, Refused}
 use Rattle.insns.specs.declared.op.Op.{Op}
 use Rattle.insns.specs.Insns.{madeOf}
-use Rattle.patch.specs.Patch.{patchOf, patchAll, patchedNumber, Patching}
 use Rattle.emit.specs.declared.state.Dst.{Dst}
 use Rattle.emit.specs.declared.state.Dst.the-variants.{Any, To}
 
@@ -72,23 +71,3 @@ storeD (Fits w) d s = cond (ltb (here s) (s .cap)) (done (d, withWords (s .words
 
 abbrev pub emitD : Op → ℕ → State → Res (ℕ × State)
 emitD op d s = storeD (madeOf op) d s
-
--- what patching left, or its number
-unfoldable pub patchedD : Patching → ℕ → State → Res (ℕ × State)
-patchedD r d s =
-    cond (eqb (patchedNumber (r .answer)) 0) (done (d, withWords (r .words) s)) (fail (patchedNumber (r .answer)))
-
--- the branch at p goes to here (`patch_jump`)
-abbrev pub patchD : ℕ → ℕ → State → Res (ℕ × State)
-patchD p d s = patchedD (patchOf (s .words) p (here s)) d s
-
--- each branch of the list goes to here (`patch_jumps`)
-abbrev pub patchesD : List ℕ → ℕ → State → Res (ℕ × State)
-patchesD ps d s = patchedD (patchAll (s .words) ps (here s)) d s
-
--- a branch, whose position is the list of jumps that is given back; 7 where the jump list has no room
-unfoldable pub leapD : Made → ℕ → State → Res (List ℕ × State)
-leapD made room s = cond (ltb 0 room) (bind (storeD made 0 s) (λ x. done (here s ∷ [], x .1))) (fail noRoom)
-
-abbrev pub jumpD : Op → ℕ → State → Res (List ℕ × State)
-jumpD op room s = leapD (madeOf op) room s

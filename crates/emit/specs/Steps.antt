@@ -1,6 +1,5 @@
 -- The steps that the generator's rules are made of: what is done with an operand once it is there. Assumes nothing: these are definitions.
-use mathlib.Core.Bool.{Bool, true, false, cond}
-use mathlib.Core.List.{List, [], _∷_, _++_}
+use mathlib.Core.Bool.{cond}
 use Prim.Native.Nat.{ℕ}
 use lib.Dec.{eqb}
 use lib.IntN.{ℤ, pos, _*ℤ_}
@@ -12,17 +11,11 @@ use Rattle.insns.specs.declared.op.Imm40.{Imm40}
 use Rattle.insns.specs.declared.op.Two.the-variants as Two
 use Rattle.insns.specs.declared.op.Slot.the-variants as Slot
 use Rattle.insns.specs.declared.op.Three.{Three}
-use Rattle.insns.specs.declared.op.Cmp.{Cmp}
-pub use Rattle.made.specs.Made.{toPatch, senseOf}
 use Rattle.emit.specs.declared.state.Dst.{Dst}
-use Rattle.emit.specs.declared.fold.Tail.{Tail}
-use Rattle.emit.specs.declared.fold.How.{How}
-use Rattle.emit.specs.declared.fold.How.the-variants as How
-use Rattle.emit.specs.State.{Res, done, fail, bind, State, here, release, destD, slotD, emitD, patchD, patchesD, jumpD}
-use Rattle.emit.specs.Fold.{fitsImm40, tailOp}
-
-abbrev pub jmpOp : Op
-jmpOp = Op.Jmp toPatch
+use Rattle.fold.specs.declared.Tail.{Tail}
+use Rattle.emit.specs.State.{Res, done, bind, State, release, destD, slotD, emitD}
+use Rattle.literal.specs.Literal.{fitsImm40}
+use Rattle.fold.specs.Fold.{tailOp}
 
 -- ---- an instruction that makes a value
 
@@ -76,38 +69,3 @@ threeTo op a dst mark = putTo (λ b d. Op.Three op d a b) dst mark
 -- what is in a register goes to the register d, unless it is that one
 unfoldable pub moveTo : ℕ → ℕ → ℕ × State → Res (ℕ × State)
 moveTo d mark x = cond (eqb (x .0) d) (done (d, release mark (x .1))) (emitD (Op.Two Two.Mov d (x .0)) d (release mark (x .1)))
-
--- ---- branches
-
--- a branch that tests one register
-abbrev pub howOp : How → ℕ → Op
-howOp (How.Bool sense) a = Op.If (senseOf sense) a toPatch
-howOp (How.Imm c n) a = Op.JumpImm c a n toPatch
-
--- the last value is in the register x .0: its registers are released, and the branch follows
-unfoldable pub leapTo : (ℕ → Op) → ℕ → ℕ → ℕ × State → Res (List ℕ × State)
-leapTo op room mark x = jumpD (op (x .0)) room (release mark (x .1))
-
-abbrev pub oneTo : How → ℕ → ℕ → ℕ × State → Res (List ℕ × State)
-oneTo how room mark = leapTo (howOp how) room mark
-
--- two registers, the left one in a
-abbrev pub pairTo : Cmp → ℕ → ℕ → ℕ → ℕ × State → Res (List ℕ × State)
-pairTo c a room mark = leapTo (λ b. Op.Jump c a b toPatch) room mark
-
--- both sides of And or Or are made: the left side's jumps go where the right side's go, or only skip the right side
-unfoldable pub junctionTo : Bool → List ℕ → List ℕ × State → Res (List ℕ × State)
-junctionTo true l y = done (l ++ y .0, y .1)
-junctionTo false l y = bind (patchesD l 0 (y .1)) (λ z. done (y .0, z .1))
-
--- ---- a condition as a value: its branch is made, with the jumps js; load False, jmp, load True
-unfoldable pub trueD : List ℕ → ℕ → ℕ → State → Res (ℕ × State)
-trueD js p d s = bind (patchesD js d s) (λ x. bind (emitD (loadOp rawTrue d) d (x .1)) (λ y. patchD p d (y .1)))
-
-unfoldable pub boolD : List ℕ → ℕ → State → Res (ℕ × State)
-boolD js d s =
-    bind (emitD (loadOp rawFalse d) d s) (λ x. bind (emitD jmpOp d (x .1)) (λ y. trueD js (here (x .1)) d (y .1)))
-
--- ---- Ternary: the then side is made; jmp over the else side, where the test's jumps js go
-unfoldable pub turnD : List ℕ → ℕ → State → Res (ℕ × State)
-turnD js d s = bind (emitD jmpOp d s) (λ x. patchesD js d (x .1))

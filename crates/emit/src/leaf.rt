@@ -1,6 +1,4 @@
 // The leaves of an expression: an immediate, a constant in a slot, or the register that a Ref names.
-use crate::fold::IMM40;
-use crate::fold::within;
 use crate::state::Ans;
 use crate::state::Dst;
 use crate::state::St;
@@ -12,6 +10,8 @@ use crate::word::emit;
 use crate::word::put_load;
 use insns::Insn;
 use insns::op::Imm40;
+use literal::IMM40;
+use literal::within;
 ghost use mathlib.Core.Path.{_≡_};
 ghost use Prim.Native.Nat.{ℕ};
 ghost use Rattle.table.specs.Table.{kindAt, payloadAt};

@@ -25,12 +25,6 @@ pub enum Ans {
     No(u8),
 }
 
-// How many jumps stand at the front of the jump list, and the state; or the number of a refusal.
-pub enum Jumps {
-    Are(usize, St),
-    No(u8),
-}
-
 fn larger(a: u16, b: u16) -> u16
     ensures { λ r. ⌜ r ≡ max a b ⌝ }
 {

@@ -1,10 +1,10 @@
 // One word more, and the instructions that make a value.
-use crate::fold::Tail;
 use crate::state::Ans;
 use crate::state::Dst;
 use crate::state::St;
 use crate::state::dest;
 use crate::state::free_to;
+use fold::Tail;
 use insns::Insn;
 use insns::Made;
 use insns::encode::shift_op;
@@ -17,8 +17,8 @@ ghost use mathlib.Core.Path.{_≡_};
 ghost use Rattle.insns.specs.Insns.{madeOf};
 ghost use Rattle.insns.specs.declared.op.Op.{Op};
 ghost use Rattle.emit.specs.State.{storeD, emitD};
-ghost use Rattle.emit.specs.Fold.{tailOp};
-ghost use Rattle.emit.specs.Steps.{jmpOp, loadOp, putD, tailTo, threeTo, moveTo};
+ghost use Rattle.fold.specs.Fold.{tailOp};
+ghost use Rattle.emit.specs.Steps.{loadOp, putD, tailTo, threeTo, moveTo};
 ghost use Rattle.emit.specs.Read.{Steps, After};
 
 // The raw bits of the immediates.
@@ -56,13 +56,6 @@ pub fn emit_load(code: &mut [u64], raw: Imm40, d: u16, st: St) -> Ans
     ensures { λ r. ⌜ Steps (now (code .entry)) (now (code .exit)) st r (emitD (Op.LoadImm40 d raw) d) ⌝ }
 {
     emit(code, made::load_imm40(d, raw), d, st)
-}
-
-// A jump whose displacement is to be patched.
-pub fn emit_jmp(code: &mut [u64], d: u16, st: St) -> Ans
-    ensures { λ r. ⌜ Steps (now (code .entry)) (now (code .exit)) st r (emitD jmpOp d) ⌝ }
-{
-    emit(code, made::jmp(), d, st)
 }
 
 // An immediate, in the register that is asked for.

@@ -22,18 +22,22 @@ use Rattle.value.specs.Value as Val
 use Rattle.table.specs.Tree.{Tree, leaf, unary, binary, ternary, Leaf, nil, yep, nope, int, float, ref, Unary, minus, neg, Cmp, Binary, arith, cmp, and, or, RefBelow, RefsBelow}
 use Rattle.emit.specs.declared.state.Dst.{Dst}
 use Rattle.emit.specs.declared.state.Dst.the-variants.{Any, To}
-use Rattle.emit.specs.declared.fold.Tail.{Tail}
-use Rattle.emit.specs.declared.fold.Tail.the-variants as Tail
-use Rattle.emit.specs.declared.fold.Fold.{Fold}
-use Rattle.emit.specs.declared.fold.Fold.the-variants.{Into, General}
-use Rattle.emit.specs.declared.fold.Lit.the-variants.{Not}
-use Rattle.emit.specs.declared.fold.Imm.{Imm}
-use Rattle.emit.specs.declared.fold.Imm.the-variants.{Imm16, NoImm}
-use Rattle.emit.specs.declared.fold.How.{How}
-use Rattle.emit.specs.declared.fold.How.the-variants as How
-use Rattle.emit.specs.Fold.{fitsImm40, asImm16, minusOne, foldOf, tailOp, threeOf, mirror, branchOf}
-use Rattle.emit.specs.State.{Res, done, bind, State, release, emitD, jumpD}
-use Rattle.emit.specs.Steps.{putD, putTo, leapTo, loadOp, rawNil, rawTrue, rawFalse, rawInt, constTo, constD, leafD, moveTo, oneTo, pairTo, junctionTo, trueD, boolD, turnD}
+use Rattle.fold.specs.declared.Tail.{Tail}
+use Rattle.fold.specs.declared.Tail.the-variants as Tail
+use Rattle.fold.specs.declared.Fold.{Fold}
+use Rattle.fold.specs.declared.Fold.the-variants.{Into, General}
+use Rattle.literal.specs.declared.Lit.the-variants.{Not}
+use Rattle.literal.specs.declared.Imm.{Imm}
+use Rattle.literal.specs.declared.Imm.the-variants.{Imm16, NoImm}
+use Rattle.fold.specs.declared.How.{How}
+use Rattle.fold.specs.declared.How.the-variants as How
+use Rattle.literal.specs.Literal.{fitsImm40, asImm16}
+use Rattle.fold.specs.Fold.{minusOne, foldOf, tailOp}
+use Rattle.kinds.specs.Kinds.{threeOf, mirror, branchOf}
+use Rattle.emit.specs.State.{Res, done, bind, State, release, emitD}
+use Rattle.jump.specs.Jump.{jumpD}
+use Rattle.emit.specs.Steps.{putD, putTo, loadOp, rawNil, rawTrue, rawFalse, rawInt, constTo, constD, leafD, moveTo}
+use Rattle.jump.specs.Jump.{leapTo, oneTo, pairTo, junctionTo, trueD, boolD, turnD}
 use Rattle.rules.specs.Gen.{Value, Branch, leafV, oneV, twoV, operand, binaryV, intoD, condV, armsD, ternaryV, oneB, testB, pairB, compareB, same, junctionB, Gen, plain, condition, unaryG, binaryG, gen}
 use Rattle.meaning.proofs.Frag.{DstLow, Vf, Bf, ValueF, BranchF, Frag, dReg, dNext, dNeed, constOp, movOp, aimed, jmpBy, testOn, pairOn, immOn, loadF, constF, intF, leafF, moved, intoF, binaryF, unaryTestF, binaryTestF, tailF, operandF, arithF, compareF, condF, ternF, juncF, juncB, plainF, conditionF, unaryN, binaryN, frag}
 use Rattle.meaning.proofs.Fits.{word, wordsOf, Fits, AllFit, all-append, nil-fits, true-fits, false-fits, int-fits, const-fits, mov-fits, three-fits, TailFits, tail-fits, far, BranchFits, branch-fits}

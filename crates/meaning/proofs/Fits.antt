@@ -18,9 +18,10 @@ use Rattle.insns.specs.Insns.{opOf, formOf, fieldsOf, madeOf}
 use Rattle.decode.specs.Decode.{decodeOf}
 use Rattle.decode.specs.declared.Decoded.{Decoded}
 use Rattle.patch.specs.declared.Branch.{Branch}
-use Rattle.emit.specs.declared.fold.Tail.{Tail}
-use Rattle.emit.specs.declared.fold.Tail.the-variants as Tail
-use Rattle.emit.specs.Fold.{fitsImm40, tailOp}
+use Rattle.fold.specs.declared.Tail.{Tail}
+use Rattle.fold.specs.declared.Tail.the-variants as Tail
+use Rattle.literal.specs.Literal.{fitsImm40}
+use Rattle.fold.specs.Fold.{tailOp}
 use Rattle.emit.specs.Steps.{loadOp, rawNil, rawTrue, rawFalse, rawInt}
 use Rattle.decode.proofs.RoundTrip.{decode-made}
 use Rattle.meaning.proofs.Frag.{constOp, movOp, aimed}

@@ -11,17 +11,18 @@ use Rattle.insns.specs.declared.op.Arith.the-variants.{Plus, Minus, Times}
 use Rattle.insns.specs.declared.op.Shift.{Shift}
 use Rattle.insns.specs.declared.op.Shift.the-variants as Shift
 use Rattle.table.specs.Tree.{Tree, leaf, unary, binary, ternary, Arith, bitAnd, bitOr, bitXor, lshift, rshift, add, sub, mul, div, mod′, arith, cmp, and, or}
-use Rattle.emit.specs.declared.fold.Fold.{Fold}
-use Rattle.emit.specs.declared.fold.Fold.the-variants.{Into, General}
-use Rattle.emit.specs.declared.fold.Lit.{Lit}
-use Rattle.emit.specs.declared.fold.Lit.the-variants.{Is, Not}
-use Rattle.emit.specs.declared.fold.Imm.{Imm}
-use Rattle.emit.specs.declared.fold.Imm.the-variants.{Imm16, NoImm}
-use Rattle.emit.specs.declared.fold.Amount.{Amount}
-use Rattle.emit.specs.declared.fold.Amount.the-variants.{By, NoShift}
-use Rattle.emit.specs.declared.fold.Run.{Run}
-use Rattle.emit.specs.declared.fold.Run.the-variants.{Ones, Other}
-use Rattle.emit.specs.Fold.{fits16, bitRun, litOf, constOf, immOf, immLit, asImm16, amountOf, amountLit, shiftBy, shiftedBy, maskFold, shiftFold, immFold, foldBy, foldLit, foldOf}
+use Rattle.fold.specs.declared.Fold.{Fold}
+use Rattle.fold.specs.declared.Fold.the-variants.{Into, General}
+use Rattle.literal.specs.declared.Lit.{Lit}
+use Rattle.literal.specs.declared.Lit.the-variants.{Is, Not}
+use Rattle.literal.specs.declared.Imm.{Imm}
+use Rattle.literal.specs.declared.Imm.the-variants.{Imm16, NoImm}
+use Rattle.literal.specs.declared.Amount.{Amount}
+use Rattle.literal.specs.declared.Amount.the-variants.{By, NoShift}
+use Rattle.literal.specs.declared.Run.{Run}
+use Rattle.literal.specs.declared.Run.the-variants.{Ones, Other}
+use Rattle.literal.specs.Literal.{fits16, bitRun, litOf, constOf, immOf, immLit, asImm16, amountOf, amountLit}
+use Rattle.fold.specs.Fold.{shiftBy, shiftedBy, maskFold, shiftFold, immFold, foldBy, foldLit, foldOf}
 use Rattle.meaning.proofs.Fits.{TailFits}
 use Rattle.meaning.proofs.Laws.{mask-is}
 use Rattle.meaning.proofs.Short.{short}

@@ -22,8 +22,9 @@ use Rattle.int64.specs.declared.Cmp.the-variants.{Eq, Ne}
 use Rattle.effect.specs.Effect as M
 use Rattle.table.specs.Tree.{Arith, bitAnd, bitOr, bitXor, lshift, rshift, add, sub, mul, div, mod′, Cmp, eq, ne, lt, le, gt, ge}
 use Rattle.eval.specs.Eval as E
-use Rattle.emit.specs.declared.fold.Run.the-variants.{Ones, Other}
-use Rattle.emit.specs.Fold.{fitsImm40, bits, runAt, runFrom, bitRun, threeOf, mirror, branchOf}
+use Rattle.literal.specs.declared.Run.the-variants.{Ones, Other}
+use Rattle.literal.specs.Literal.{fitsImm40, bits, runAt, runFrom, bitRun}
+use Rattle.kinds.specs.Kinds.{threeOf, mirror, branchOf}
 use Rattle.emit.specs.Steps.{rawNil, rawTrue, rawFalse, rawInt}
 use Rattle.meaning.proofs.Runs.{Truth, truth, wrong, test, sameT}
 

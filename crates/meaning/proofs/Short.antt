@@ -13,13 +13,15 @@ use Rattle.value.specs.Value.{Datum}
 use Rattle.table.specs.Tree.{Tree, leaf, unary, binary, ternary, Leaf, nil, yep, nope, int, float, ref, Unary, minus, neg, Cmp, Binary, arith, cmp, and, or, size}
 use Rattle.emit.specs.declared.state.Dst.{Dst}
 use Rattle.emit.specs.declared.state.Dst.the-variants.{Any, To}
-use Rattle.emit.specs.declared.fold.Tail.{Tail}
-use Rattle.emit.specs.declared.fold.Tail.the-variants as Tail
-use Rattle.emit.specs.declared.fold.Fold.{Fold}
-use Rattle.emit.specs.declared.fold.Fold.the-variants.{Into, General}
-use Rattle.emit.specs.declared.fold.Imm.{Imm}
-use Rattle.emit.specs.declared.fold.Imm.the-variants.{Imm16, NoImm}
-use Rattle.emit.specs.Fold.{fitsImm40, asImm16, foldOf, minusOne, tailOp, threeOf, mirror, branchOf}
+use Rattle.fold.specs.declared.Tail.{Tail}
+use Rattle.fold.specs.declared.Tail.the-variants as Tail
+use Rattle.fold.specs.declared.Fold.{Fold}
+use Rattle.fold.specs.declared.Fold.the-variants.{Into, General}
+use Rattle.literal.specs.declared.Imm.{Imm}
+use Rattle.literal.specs.declared.Imm.the-variants.{Imm16, NoImm}
+use Rattle.literal.specs.Literal.{fitsImm40, asImm16}
+use Rattle.fold.specs.Fold.{foldOf, minusOne, tailOp}
+use Rattle.kinds.specs.Kinds.{threeOf, mirror, branchOf}
 use Rattle.emit.specs.Steps.{loadOp, rawTrue, rawFalse}
 use Rattle.rules.specs.Gen.{same}
 use Rattle.meaning.proofs.Frag.{Vf, Bf, ValueF, BranchF, Frag, dReg, dNext, movOp, aimed, jmpBy, testOn, pairOn, immOn, leafF, intF, moved, intoF, second, unaryF, binaryF, unaryTestF, binaryTestF, tailF, operandF, arithF, compareF, condF, ternF, juncB, plainF, conditionF, unaryN, binaryN, frag}

@@ -15,7 +15,8 @@ use Rattle.patch.specs.Patch.{Patching, patchOf, patchAll}
 use Rattle.value.specs.Value.{Datum}
 use Rattle.emit.specs.declared.state.Dst.{Dst}
 use Rattle.emit.specs.declared.state.Dst.the-variants.{Any, To}
-use Rattle.emit.specs.State.{Res, done, fail, bind, State, allocD, destD, slotD, storeD, emitD, patchedD, patchD, patchesD, leapD, jumpD}
+use Rattle.emit.specs.State.{Res, done, fail, bind, State, allocD, destD, slotD, storeD, emitD}
+use Rattle.jump.specs.Jump.{patchedD, patchD, patchesD, leapD, jumpD}
 use Rattle.emit.specs.Steps.{putD}
 use Rattle.meaning.proofs.Frag.{DstLow, dReg, dNext, dNeed}
 use Rattle.meaning.proofs.Fits.{word, Fits, made}

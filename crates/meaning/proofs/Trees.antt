@@ -27,19 +27,21 @@ use Rattle.eval.specs.Eval as E
 use Rattle.eval.specs.Eval.{evalOf, leafOf}
 use Rattle.emit.specs.declared.state.Dst.{Dst}
 use Rattle.emit.specs.declared.state.Dst.the-variants.{Any, To}
-use Rattle.emit.specs.declared.fold.Tail.{Tail}
-use Rattle.emit.specs.declared.fold.Tail.the-variants as Tail
-use Rattle.emit.specs.declared.fold.Fold.{Fold}
-use Rattle.emit.specs.declared.fold.Fold.the-variants.{Into, General}
-use Rattle.emit.specs.declared.fold.Lit.{Lit}
-use Rattle.emit.specs.declared.fold.Lit.the-variants.{Is, Not}
-use Rattle.emit.specs.declared.fold.Imm.{Imm}
-use Rattle.emit.specs.declared.fold.Imm.the-variants.{Imm16, NoImm}
-use Rattle.emit.specs.declared.fold.Amount.{Amount}
-use Rattle.emit.specs.declared.fold.Amount.the-variants.{By, NoShift}
-use Rattle.emit.specs.declared.fold.Run.{Run}
-use Rattle.emit.specs.declared.fold.Run.the-variants.{Ones, Other}
-use Rattle.emit.specs.Fold.{fits16, fitsImm40, isFixnum, bitRun, litOf, fixnum, constOf, immOf, immLit, asImm16, amountOf, amountLit, minusOne, shiftBy, shiftedBy, maskFold, shiftFold, immFold, foldBy, foldLit, foldOf, tailOp, threeOf, mirror, branchOf}
+use Rattle.fold.specs.declared.Tail.{Tail}
+use Rattle.fold.specs.declared.Tail.the-variants as Tail
+use Rattle.fold.specs.declared.Fold.{Fold}
+use Rattle.fold.specs.declared.Fold.the-variants.{Into, General}
+use Rattle.literal.specs.declared.Lit.{Lit}
+use Rattle.literal.specs.declared.Lit.the-variants.{Is, Not}
+use Rattle.literal.specs.declared.Imm.{Imm}
+use Rattle.literal.specs.declared.Imm.the-variants.{Imm16, NoImm}
+use Rattle.literal.specs.declared.Amount.{Amount}
+use Rattle.literal.specs.declared.Amount.the-variants.{By, NoShift}
+use Rattle.literal.specs.declared.Run.{Run}
+use Rattle.literal.specs.declared.Run.the-variants.{Ones, Other}
+use Rattle.literal.specs.Literal.{fits16, fitsImm40, isFixnum, bitRun, litOf, fixnum, constOf, immOf, immLit, asImm16, amountOf, amountLit}
+use Rattle.fold.specs.Fold.{minusOne, shiftBy, shiftedBy, maskFold, shiftFold, immFold, foldBy, foldLit, foldOf, tailOp}
+use Rattle.kinds.specs.Kinds.{threeOf, mirror, branchOf}
 use Rattle.emit.specs.Steps.{rawNil, rawTrue, rawFalse, rawInt}
 use Rattle.meaning.proofs.Frag.{DstLow, ValueF, BranchF, Frag, dReg, dNext, loadF, intF, leafF, intoF, binaryF, unaryTestF, binaryTestF, tailF, operandF, arithF, compareF, immOn, pairOn, testOn, condF, ternF, juncB, plainF, conditionF, unaryN, binaryN, frag}
 use Rattle.meaning.proofs.Runs.{VSound, BSound, Truth, truth, wrong, test, sameT}

@@ -3,11 +3,11 @@
 ghost use mathlib.Core.Path.{_≡_};
 ghost use lib.ListN.{length};
 ghost use Rattle.ops.specs.Ops.{resultOf};
-ghost use Rattle.codegen.specs.Compile.{Compiles};
+ghost use Rattle.report.specs.Report.{Compiles};
 ghost use Rattle.records.specs.Records.{roomFault, flattened, checkNodes, evaluateNodes, compileNodes};
 ghost use Rattle.records.specs.Copy.{copiedOf, put, checkFront, evaluateFront, compileFront};
-use codegen::compile::Compiled;
 use ops::Answer;
+use report::Compiled;
 use table::Dest;
 
 // A node of a table: the four words of document 01, by name.
@@ -110,7 +110,7 @@ fn compile_front(
 {
     let f = room_fault(n, words.len());
     if f != faults::NONE {
-        return codegen::compile::refuse(f, code, kinds, payloads);
+        return report::refuse(f, code, kinds, payloads);
     }
     codegen::compile::compile(&words[..4 * n], params, locals, dest, code, kinds, payloads)
 }

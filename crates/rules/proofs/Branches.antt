@@ -15,13 +15,15 @@ use Rattle.emit.specs.declared.state.St.{St}
 use Rattle.emit.specs.declared.state.Dst.the-variants.{Any}
 use Rattle.emit.specs.declared.state.Ans.{Ans}
 use Rattle.emit.specs.declared.state.Ans.the-variants.{Got, No}
-use Rattle.emit.specs.declared.state.Jumps.{Jumps}
-use Rattle.emit.specs.declared.state.Jumps.the-variants as J
-use Rattle.emit.specs.declared.fold.How.{How}
+use Rattle.jump.specs.declared.Jumps.{Jumps}
+use Rattle.jump.specs.declared.Jumps.the-variants as J
+use Rattle.fold.specs.declared.How.{How}
 use Rattle.emit.specs.State.{Res, bind, State}
-use Rattle.emit.specs.Fold.{branchOf, Picked, one, both, pickOf, isJunction}
-use Rattle.emit.specs.Steps.{oneTo, pairTo, junctionTo}
-use Rattle.emit.specs.Read.{Bufs, bufs, stOf, Says, readJumps, FitJumps, Lists, AfterJumping, Joined}
+use Rattle.kinds.specs.Kinds.{branchOf, isJunction}
+use Rattle.fold.specs.Fold.{Picked, one, both, pickOf}
+use Rattle.jump.specs.Jump.{oneTo, pairTo, junctionTo}
+use Rattle.emit.specs.Read.{Bufs, bufs, stOf, Says}
+use Rattle.jump.specs.Lists.{readJumps, FitJumps, Lists, AfterJumping, Joined}
 use Rattle.rules.specs.Gen.{gen, oneB, pairB, junctionB, same}
 use Rattle.rules.specs.Rules.{valueAt, branchAt, Ready, IsTest, IsPair, IsJunction}
 use Rattle.rules.proofs.Gens.{Alone, pick-one, pick-both}

@@ -7,16 +7,18 @@ use native.Mathlib.Omega.{arith as numbers}
 use Rattle.table.specs.Tree.{Leaf, Unary, minus, neg, Arith, Cmp, Binary, arith, cmp, and, or, Tree, leaf, unary, binary, ternary}
 use Rattle.emit.specs.declared.state.Dst.{Dst}
 use Rattle.emit.specs.declared.state.Dst.the-variants.{Any}
-use Rattle.emit.specs.declared.fold.Tail.{Tail}
-use Rattle.emit.specs.declared.fold.Tail.the-variants as Tail
-use Rattle.emit.specs.declared.fold.Fold.{Fold}
-use Rattle.emit.specs.declared.fold.Fold.the-variants.{Into, General}
-use Rattle.emit.specs.declared.fold.Imm.{Imm}
-use Rattle.emit.specs.declared.fold.Imm.the-variants.{Imm16, NoImm}
-use Rattle.emit.specs.declared.fold.How.{How}
-use Rattle.emit.specs.declared.fold.How.the-variants as How
+use Rattle.fold.specs.declared.Tail.{Tail}
+use Rattle.fold.specs.declared.Tail.the-variants as Tail
+use Rattle.fold.specs.declared.Fold.{Fold}
+use Rattle.fold.specs.declared.Fold.the-variants.{Into, General}
+use Rattle.literal.specs.declared.Imm.{Imm}
+use Rattle.literal.specs.declared.Imm.the-variants.{Imm16, NoImm}
+use Rattle.fold.specs.declared.How.{How}
+use Rattle.fold.specs.declared.How.the-variants as How
 use Rattle.emit.specs.State.{Res, State}
-use Rattle.emit.specs.Fold.{foldOf, opFold, threeOf, branchOf, leftOf, operandOf, takesShift, Picked, one, both, comparePick, pickOf, asImm16}
+use Rattle.fold.specs.Fold.{foldOf, opFold, leftOf, operandOf, takesShift, Picked, one, both, comparePick, pickOf}
+use Rattle.kinds.specs.Kinds.{threeOf, branchOf}
+use Rattle.literal.specs.Literal.{asImm16}
 use Rattle.rules.specs.Gen.{Value, gen, leafV, oneV, twoV, operand, binaryV, condV, oneB, pairB, compareB, junctionB, ternaryV}
 
 -- `first` is the left operand's value

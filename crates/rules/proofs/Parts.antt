@@ -11,10 +11,11 @@ use Rattle.emit.specs.declared.state.St.{St}
 use Rattle.emit.specs.declared.state.Dst.the-variants.{Any}
 use Rattle.emit.specs.declared.state.Ans.{Ans}
 use Rattle.emit.specs.declared.state.Ans.the-variants.{Got, No}
-use Rattle.emit.specs.declared.state.Jumps.{Jumps}
-use Rattle.emit.specs.declared.state.Jumps.the-variants as J
+use Rattle.jump.specs.declared.Jumps.{Jumps}
+use Rattle.jump.specs.declared.Jumps.the-variants as J
 use Rattle.emit.specs.State.{Res, done, fail, bind, State}
-use Rattle.emit.specs.Read.{Bufs, bufs, stOf, read, Fit, FitAns, Says, readJumps, FitJumps, Lists, Counted, Behind}
+use Rattle.emit.specs.Read.{Bufs, bufs, stOf, read, Fit, FitAns, Says}
+use Rattle.jump.specs.Lists.{readJumps, FitJumps, Lists, Counted, Behind}
 use Rattle.rules.specs.Gen.{same}
 use Rattle.rules.specs.Rules.{valueAt}
 use Rattle.emit.proofs.Laws.{go, says-by}

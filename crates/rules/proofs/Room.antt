@@ -15,17 +15,21 @@ use Rattle.insns.specs.declared.op.Three.{Three}
 use Rattle.insns.specs.declared.op.Cmp.{Cmp as JumpCmp}
 use Rattle.emit.specs.declared.state.Dst.{Dst}
 use Rattle.emit.specs.declared.state.Dst.the-variants.{Any, To}
-use Rattle.emit.specs.declared.fold.Tail.{Tail}
-use Rattle.emit.specs.declared.fold.Tail.the-variants as Tail
-use Rattle.emit.specs.declared.fold.Fold.{Fold}
-use Rattle.emit.specs.declared.fold.Fold.the-variants.{Into, General}
-use Rattle.emit.specs.declared.fold.Imm.{Imm}
-use Rattle.emit.specs.declared.fold.Imm.the-variants.{Imm16, NoImm}
-use Rattle.emit.specs.declared.fold.How.{How}
-use Rattle.emit.specs.declared.fold.How.the-variants as How
-use Rattle.emit.specs.State.{Res, done, fail, bind, State, here, release, destD, storeD, patchD, patchesD, leapD}
-use Rattle.emit.specs.Fold.{asImm16, foldOf, minusOne, threeOf, mirror, branchOf}
-use Rattle.emit.specs.Steps.{leafD, tailTo, threeTo, moveTo, leapTo, oneTo, pairTo, junctionTo, boolD, turnD}
+use Rattle.fold.specs.declared.Tail.{Tail}
+use Rattle.fold.specs.declared.Tail.the-variants as Tail
+use Rattle.fold.specs.declared.Fold.{Fold}
+use Rattle.fold.specs.declared.Fold.the-variants.{Into, General}
+use Rattle.literal.specs.declared.Imm.{Imm}
+use Rattle.literal.specs.declared.Imm.the-variants.{Imm16, NoImm}
+use Rattle.fold.specs.declared.How.{How}
+use Rattle.fold.specs.declared.How.the-variants as How
+use Rattle.emit.specs.State.{Res, done, fail, bind, State, here, release, destD, storeD}
+use Rattle.jump.specs.Jump.{patchD, patchesD, leapD}
+use Rattle.literal.specs.Literal.{asImm16}
+use Rattle.fold.specs.Fold.{foldOf, minusOne}
+use Rattle.kinds.specs.Kinds.{threeOf, mirror, branchOf}
+use Rattle.emit.specs.Steps.{leafD, tailTo, threeTo, moveTo}
+use Rattle.jump.specs.Jump.{leapTo, oneTo, pairTo, junctionTo, boolD, turnD}
 use Rattle.rules.specs.Gen.{Value, Branch, leafV, oneV, twoV, operand, binaryV, intoD, condV, armsD, ternaryV, oneB, testB, pairB, compareB, same, junctionB, Gen, plain, condition, unaryG, binaryG, gen}
 
 -- ---- what holds of every answer that is no refusal

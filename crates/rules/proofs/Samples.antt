@@ -8,9 +8,12 @@ use Rattle.value.specs.Value.{Datum}
 use Rattle.value.specs.Value as Val
 use Rattle.table.specs.Tree.{Leaf, int, ref, Arith, bitAnd, add, Cmp, lt, arith, cmp, Tree, leaf, binary, ternary}
 use Rattle.emit.specs.declared.state.Dst.the-variants.{Any}
-use Rattle.emit.specs.State.{Res, done, fail, State, bind, allocD, destD, slotD, storeD, patchedD, leapD}
-use Rattle.emit.specs.Fold.{bits, runAt, runFrom, bitRun, litOf, shiftBy, shiftedBy, foldBy}
-use Rattle.emit.specs.Steps.{leafD, putD, putTo, leapTo, moveTo, junctionTo, boolD, trueD, turnD, constD, constTo}
+use Rattle.emit.specs.State.{Res, done, fail, State, bind, allocD, destD, slotD, storeD}
+use Rattle.jump.specs.Jump.{patchedD, leapD}
+use Rattle.literal.specs.Literal.{bits, runAt, runFrom, bitRun, litOf}
+use Rattle.fold.specs.Fold.{shiftBy, shiftedBy, foldBy}
+use Rattle.emit.specs.Steps.{leafD, putD, putTo, moveTo, constD, constTo}
+use Rattle.jump.specs.Jump.{leapTo, junctionTo, boolD, trueD, turnD}
 use Rattle.patch.specs.Patch.{patchOf, patchAll, aimWord, reachOf}
 use Rattle.rules.specs.Gen.{gen, leafV, oneV, twoV, binaryV, intoD, condV, armsD, ternaryV, oneB, pairB, compareB, junctionB}
 use Rattle.insns.specs.declared.op.Op.{Op}

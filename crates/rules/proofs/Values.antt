@@ -16,14 +16,19 @@ use Rattle.emit.specs.declared.state.Dst.{Dst}
 use Rattle.emit.specs.declared.state.Dst.the-variants.{Any, To}
 use Rattle.emit.specs.declared.state.Ans.{Ans}
 use Rattle.emit.specs.declared.state.Ans.the-variants.{Got, No}
-use Rattle.emit.specs.declared.state.Jumps.{Jumps}
-use Rattle.emit.specs.declared.state.Jumps.the-variants as J
-use Rattle.emit.specs.declared.fold.Tail.{Tail}
-use Rattle.emit.specs.declared.fold.Fold.the-variants.{Into, General}
-use Rattle.emit.specs.State.{Res, bind, State, here, destD, patchD}
-use Rattle.emit.specs.Fold.{opFold, threeOf}
-use Rattle.emit.specs.Steps.{leafD, tailTo, threeTo, moveTo, boolD, turnD}
-use Rattle.emit.specs.Read.{Bufs, bufs, stOf, Fit, Says, Lists, Steps, After, Operand}
+use Rattle.jump.specs.declared.Jumps.{Jumps}
+use Rattle.jump.specs.declared.Jumps.the-variants as J
+use Rattle.fold.specs.declared.Tail.{Tail}
+use Rattle.fold.specs.declared.Fold.the-variants.{Into, General}
+use Rattle.emit.specs.State.{Res, bind, State, here, destD}
+use Rattle.jump.specs.Jump.{patchD}
+use Rattle.fold.specs.Fold.{opFold}
+use Rattle.kinds.specs.Kinds.{threeOf}
+use Rattle.emit.specs.Steps.{leafD, tailTo, threeTo, moveTo}
+use Rattle.jump.specs.Jump.{boolD, turnD}
+use Rattle.emit.specs.Read.{Bufs, bufs, stOf, Fit, Says, Steps, After}
+use Rattle.jump.specs.Lists.{Lists}
+use Rattle.fold.specs.Nodes.{Operand}
 use Rattle.rules.specs.Gen.{gen, leafV, oneV, twoV, intoD, condV, armsD, ternaryV}
 use Rattle.rules.specs.Rules.{valueAt, branchAt, Ready, IsGeneral, IsCondition, IsTernary}
 use Rattle.emit.proofs.Laws.{go, stop, kept, says-by, chain}

@@ -19,17 +19,20 @@ use Rattle.emit.specs.declared.state.St.{St}
 use Rattle.emit.specs.declared.state.Dst.{Dst}
 use Rattle.emit.specs.declared.state.Ans.{Ans}
 use Rattle.emit.specs.declared.state.Ans.the-variants.{Got}
-use Rattle.emit.specs.declared.state.Jumps.{Jumps}
-use Rattle.emit.specs.declared.state.Jumps.the-variants as J
-use Rattle.emit.specs.declared.fold.Tail.{Tail}
-use Rattle.emit.specs.declared.fold.Fold.{Fold}
-use Rattle.emit.specs.declared.fold.Fold.the-variants.{Into, General}
-use Rattle.emit.specs.declared.fold.How.{How}
-use Rattle.emit.specs.declared.fold.Test.{Test}
-use Rattle.emit.specs.declared.fold.Test.the-variants as T
+use Rattle.jump.specs.declared.Jumps.{Jumps}
+use Rattle.jump.specs.declared.Jumps.the-variants as J
+use Rattle.fold.specs.declared.Tail.{Tail}
+use Rattle.fold.specs.declared.Fold.{Fold}
+use Rattle.fold.specs.declared.Fold.the-variants.{Into, General}
+use Rattle.fold.specs.declared.How.{How}
+use Rattle.fold.specs.declared.Test.{Test}
+use Rattle.fold.specs.declared.Test.the-variants as T
 use Rattle.emit.specs.State.{Res, State, destD}
-use Rattle.emit.specs.Fold.{opFold, Picked, one, both, pickOf, isComparison, isJunction}
-use Rattle.emit.specs.Read.{Bufs, bufs, Fit, Says, Lists, Steps, Operand, Operator, Tested, TestIs, LeafReady}
+use Rattle.fold.specs.Fold.{opFold, Picked, one, both, pickOf}
+use Rattle.kinds.specs.Kinds.{isComparison, isJunction}
+use Rattle.emit.specs.Read.{Bufs, bufs, Fit, Says, Steps, LeafReady}
+use Rattle.jump.specs.Lists.{Lists}
+use Rattle.fold.specs.Nodes.{Operand, Operator, Tested, TestIs}
 use Rattle.rules.specs.Rules.{Ready, IsOperator}
 use Rattle.emit.proofs.Laws.{kept}
 use Rattle.rules.proofs.Parts.{kept-jumps}

@@ -9,17 +9,21 @@ use Rattle.insns.specs.declared.op.Three.{Three}
 use Rattle.insns.specs.declared.op.Cmp.{Cmp as JumpCmp}
 use Rattle.emit.specs.declared.state.Dst.{Dst}
 use Rattle.emit.specs.declared.state.Dst.the-variants.{Any, To}
-use Rattle.emit.specs.declared.fold.Tail.{Tail}
-use Rattle.emit.specs.declared.fold.Tail.the-variants as Tail
-use Rattle.emit.specs.declared.fold.Fold.{Fold}
-use Rattle.emit.specs.declared.fold.Fold.the-variants.{Into, General}
-use Rattle.emit.specs.declared.fold.Imm.{Imm}
-use Rattle.emit.specs.declared.fold.Imm.the-variants.{Imm16, NoImm}
-use Rattle.emit.specs.declared.fold.How.{How}
-use Rattle.emit.specs.declared.fold.How.the-variants as How
-use Rattle.emit.specs.State.{Res, done, bind, State, here, destD, patchD}
-use Rattle.emit.specs.Fold.{asImm16, foldOf, minusOne, threeOf, mirror, branchOf}
-use Rattle.emit.specs.Steps.{leafD, tailTo, threeTo, moveTo, oneTo, pairTo, junctionTo, boolD, turnD}
+use Rattle.fold.specs.declared.Tail.{Tail}
+use Rattle.fold.specs.declared.Tail.the-variants as Tail
+use Rattle.fold.specs.declared.Fold.{Fold}
+use Rattle.fold.specs.declared.Fold.the-variants.{Into, General}
+use Rattle.literal.specs.declared.Imm.{Imm}
+use Rattle.literal.specs.declared.Imm.the-variants.{Imm16, NoImm}
+use Rattle.fold.specs.declared.How.{How}
+use Rattle.fold.specs.declared.How.the-variants as How
+use Rattle.emit.specs.State.{Res, done, bind, State, here, destD}
+use Rattle.jump.specs.Jump.{patchD}
+use Rattle.literal.specs.Literal.{asImm16}
+use Rattle.fold.specs.Fold.{foldOf, minusOne}
+use Rattle.kinds.specs.Kinds.{threeOf, mirror, branchOf}
+use Rattle.emit.specs.Steps.{leafD, tailTo, threeTo, moveTo}
+use Rattle.jump.specs.Jump.{oneTo, pairTo, junctionTo, boolD, turnD}
 
 -- A value rule takes where the value is to go, the room in the jump list and the state, and gives the register that holds the value.
 -- A branch rule takes the sense that jumps, and gives the positions of the jumps, which are still to be patched.

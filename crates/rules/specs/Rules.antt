@@ -10,10 +10,12 @@ use Rattle.table.specs.Tree.{tree}
 use Rattle.emit.specs.declared.state.St.{St}
 use Rattle.emit.specs.declared.state.Dst.{Dst}
 use Rattle.emit.specs.declared.state.Ans.{Ans}
-use Rattle.emit.specs.declared.state.Jumps.{Jumps}
-use Rattle.emit.specs.declared.fold.Fold.the-variants.{General}
-use Rattle.emit.specs.Fold.{opFold, pickOf, both, isJunction}
-use Rattle.emit.specs.Read.{Bufs, bufs, stOf, Fit, Says, Lists}
+use Rattle.jump.specs.declared.Jumps.{Jumps}
+use Rattle.fold.specs.declared.Fold.the-variants.{General}
+use Rattle.fold.specs.Fold.{opFold, pickOf, both}
+use Rattle.kinds.specs.Kinds.{isJunction}
+use Rattle.emit.specs.Read.{Bufs, bufs, stOf, Fit, Says}
+use Rattle.jump.specs.Lists.{Lists}
 use Rattle.rules.specs.Gen.{Value, Branch, intoD, armsD, gen}
 
 -- the rules of the tree at node i

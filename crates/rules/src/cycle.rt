@@ -1,33 +1,34 @@
 // The value, branch and move rules. Each says what it emits for the node i of an accepted table; what follows its last call of another rule
 // is done in a routine that calls none, so that little is carried across a call. `gen_operand`, `gen_jumps` and `gen_not` are calls in routines of
 // their own: the compiler takes them in, and what one call needs of the stack serves the next call too (docs/STACK.md).
-use emit::fold::Fold;
-use emit::fold::Test;
-use emit::fold::cmp_branch;
-use emit::fold::fold_of;
-use emit::fold::is_junction;
-use emit::fold::operand_of;
-use emit::fold::test_of;
-use emit::fold::three_of;
-use emit::jump::gen_bool;
-use emit::jump::join;
-use emit::jump::jump_one;
-use emit::jump::jump_pair;
-use emit::jump::settle;
-use emit::jump::turn;
 use emit::leaf::gen_value;
 use emit::state::Ans;
 use emit::state::Dst;
-use emit::state::Jumps;
 use emit::state::St;
 use emit::state::dest;
 use emit::word::put_mov;
 use emit::word::put_tail;
 use emit::word::put_three;
+use fold::Fold;
+use fold::Test;
+use fold::fold_of;
+use fold::operand_of;
+use fold::test_of;
+use jump::Jumps;
+use jump::gen_bool;
+use jump::join;
+use jump::jump_one;
+use jump::jump_pair;
+use jump::settle;
+use jump::turn;
+use kinds::cmp_branch;
+use kinds::is_junction;
+use kinds::three_of;
 ghost use Prim.Native.Nat.{_≤_};
 ghost use lib.ListN.{length, take};
 ghost use Rattle.table.specs.Table.{child1, child2};
-ghost use Rattle.emit.specs.Read.{bufs, stOf, Says, Lists};
+ghost use Rattle.emit.specs.Read.{bufs, stOf, Says};
+ghost use Rattle.jump.specs.Lists.{Lists};
 ghost use Rattle.rules.specs.Gen.{armsD, intoD};
 ghost use Rattle.rules.specs.Rules.{valueAt, branchAt, Ready, IsOperator, IsGeneral, IsCondition, IsTernary, IsNot, IsTest, IsPair, IsJunction};
 

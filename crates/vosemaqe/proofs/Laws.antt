@@ -7,8 +7,9 @@ use Rattle.table.specs.Table.{checkOf}
 use Rattle.ops.specs.Ops.{Result, resultOf}
 use Rattle.ops.specs.declared.Answer.{Answer}
 use Rattle.codegen.specs.Compile as C
+use Rattle.report.specs.Report as Report
 use Rattle.codegen.specs.Compile.{compileOf}
-use Rattle.codegen.specs.declared.compile.Compiled.{Compiled}
+use Rattle.report.specs.declared.Compiled.{Compiled}
 use Rattle.insns.specs.declared.Made.{Made}
 use Rattle.patch.specs.Patch.{patchedNumber}
 use Rattle.decode.specs.declared.Decoded.{Decoded}
@@ -23,7 +24,7 @@ pub check-at : (ws : List ℕ) (p l n : ℕ) {d : Dest} {r : ℕ} → d ≡ dest
 check-at ws p l n e h = rw (← e) h
 
 pub compile-at : (ws : List ℕ) (p l n room cap slots : ℕ) {d : Dest} {q : Compiled} {t : Report} {code kinds payloads : List ℕ} {c k m : ℕ}
-    → d ≡ destOf n → C.Compiles q (compileOf ws p l d room cap slots) code kinds payloads c k m → t ≡ reportOf q
+    → d ≡ destOf n → Report.Compiles q (compileOf ws p l d room cap slots) code kinds payloads c k m → t ≡ reportOf q
     → Compiles t (compileOf ws p l (destOf n) room cap slots) code kinds payloads c k m
 compile-at ws p l n room cap slots e h f =
     rw (← e) (record { answer = f ∙ ap reportOf (h .answer); words = h .words; slotKinds = h .slotKinds; slotPayloads = h .slotPayloads })

@@ -43,10 +43,10 @@ use Rattle.records.specs.Copy.{compileFront}
 use Rattle.records.specs.declared.Node.{Node}
 use Rattle.records.proofs.Node as T
 use Rattle.emit.specs.State.{Res, State}
-use Rattle.codegen.specs.Compile.{Compiles}
-use Rattle.codegen.specs.declared.compile.Compiled.{Compiled}
-use Rattle.codegen.proofs.compile.Compiled as Ans
-use Rattle.codegen.proofs.compile.Compiled.Laws as Ans′
+use Rattle.report.specs.Report.{Compiles}
+use Rattle.report.specs.declared.Compiled.{Compiled}
+use Rattle.report.proofs.Compiled as Ans
+use Rattle.report.proofs.Compiled.Laws as Ans′
 use Rattle.table.specs.declared.Dest.{Dest}
 use Rattle.table.proofs.Dest as D
 use Rattle.table.proofs.Dest.Laws as D′

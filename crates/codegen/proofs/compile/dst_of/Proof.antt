@@ -1,5 +1,5 @@
 -- `dst_of` is the destination that was asked for. Assumes nothing.
-use Rattle.codegen.proofs.Ends.{register-fits, dst-reg}
+use Rattle.codegen.proofs.Roots.{register-fits, dst-reg}
 use native.Mathlib.Omega.{arith}
 use borrow.Author.Needs.{needs}
 use Rattle.codegen.proofs.compile.dst_of.Statement.{statement}

@@ -1,5 +1,5 @@
 -- `root` generates the whole tree. Assumes nothing.
-use Rattle.codegen.proofs.Ends.{roots}
+use Rattle.codegen.proofs.Roots.{roots}
 use borrow.Author.Needs.{needs}
 use Rattle.codegen.proofs.compile.root.Statement.{statement}
 use Rattle.codegen.proofs.compile.root.Tie as tie

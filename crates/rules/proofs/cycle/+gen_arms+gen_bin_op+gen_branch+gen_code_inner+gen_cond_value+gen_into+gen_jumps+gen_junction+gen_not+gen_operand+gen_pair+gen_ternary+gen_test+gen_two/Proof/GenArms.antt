@@ -8,8 +8,8 @@ use Rattle.rules.proofs.Values.{arms-stop, arms-turned, arms-value}
 use Rattle.rules.proofs.Walk.{rules, inner, child-into, ready-after}
 use Rattle.rules.proofs.cycle.gen_arms.Reads as gen-arms
 use Rattle.rules.proofs.cycle.gen_into.Reads as gen-into
-use Rattle.emit.proofs.jump.settle.Reads as settle-reads
-use Rattle.emit.proofs.jump.turn.Reads as turn-reads
+use Rattle.jump.proofs.settle.Reads as settle-reads
+use Rattle.jump.proofs.turn.Reads as turn-reads
 use Rattle.table.proofs.child_1.Reads as child-1-reads
 use Rattle.table.proofs.child_2.Reads as child-2-reads
 use Rattle.rules.proofs.cycle.+gen_arms+gen_bin_op+gen_branch+gen_code_inner+gen_cond_value+gen_into+gen_jumps+gen_junction+gen_not+gen_operand+gen_pair+gen_ternary+gen_test+gen_two.Lts-gen_arms as lts

@@ -6,8 +6,8 @@ use Rattle.rules.proofs.Walk.{rules, operator, over-unary, op-over-two}
 use Rattle.rules.proofs.cycle.gen_bin_op.Reads as gen-bin-op
 use Rattle.rules.proofs.cycle.gen_operand.Reads as gen-operand
 use Rattle.rules.proofs.cycle.gen_two.Reads as gen-two
-use Rattle.emit.proofs.fold.fold_of.Reads as fold-of-reads
-use Rattle.emit.proofs.fold.operand_of.Reads as operand-of-reads
+use Rattle.fold.proofs.fold_of.Reads as fold-of-reads
+use Rattle.fold.proofs.operand_of.Reads as operand-of-reads
 use Rattle.emit.proofs.word.put_tail.Reads as put-tail-reads
 use Rattle.rules.proofs.cycle.+gen_arms+gen_bin_op+gen_branch+gen_code_inner+gen_cond_value+gen_into+gen_jumps+gen_junction+gen_not+gen_operand+gen_pair+gen_ternary+gen_test+gen_two.Lts-gen_bin_op as lts
 use Rattle.rules.proofs.cycle.+gen_arms+gen_bin_op+gen_branch+gen_code_inner+gen_cond_value+gen_into+gen_jumps+gen_junction+gen_not+gen_operand+gen_pair+gen_ternary+gen_test+gen_two.Proof.Measures.{gen-bin-op-at, gen-operand-below, gen-two-below}

@@ -5,7 +5,7 @@ use Rattle.rules.proofs.cycle.gen_branch.Reads as gen-branch
 use Rattle.rules.proofs.cycle.gen_junction.Reads as gen-junction
 use Rattle.rules.proofs.cycle.gen_not.Reads as gen-not
 use Rattle.rules.proofs.cycle.gen_test.Reads as gen-test
-use Rattle.emit.proofs.fold.is_junction.Reads as is-junction-reads
+use Rattle.kinds.proofs.is_junction.Reads as is-junction-reads
 use Rattle.table.proofs.kind_at.Reads as kind-at-reads
 use Rattle.rules.proofs.cycle.+gen_arms+gen_bin_op+gen_branch+gen_code_inner+gen_cond_value+gen_into+gen_jumps+gen_junction+gen_not+gen_operand+gen_pair+gen_ternary+gen_test+gen_two.Lts-gen_branch as lts
 use Rattle.rules.proofs.cycle.+gen_arms+gen_bin_op+gen_branch+gen_code_inner+gen_cond_value+gen_into+gen_jumps+gen_junction+gen_not+gen_operand+gen_pair+gen_ternary+gen_test+gen_two.Proof.Measures.{gen-branch-at, gen-junction-below, gen-not-below, gen-test-below}

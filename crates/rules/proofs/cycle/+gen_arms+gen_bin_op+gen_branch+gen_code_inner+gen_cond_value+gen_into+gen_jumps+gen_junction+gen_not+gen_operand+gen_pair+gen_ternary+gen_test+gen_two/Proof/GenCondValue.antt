@@ -5,7 +5,7 @@ use Rattle.rules.proofs.Values.{cond-stop, cond-refused, cond-value}
 use Rattle.rules.proofs.Walk.{rules, cond-over-jumps, ready-dest}
 use Rattle.rules.proofs.cycle.gen_jumps.Reads as gen-jumps
 use Rattle.rules.proofs.cycle.gen_cond_value.Reads as gen-cond-value
-use Rattle.emit.proofs.jump.gen_bool.Reads as gen-bool-reads
+use Rattle.jump.proofs.gen_bool.Reads as gen-bool-reads
 use Rattle.emit.proofs.state.dest.Reads as dest-reads
 use Rattle.rules.proofs.cycle.+gen_arms+gen_bin_op+gen_branch+gen_code_inner+gen_cond_value+gen_into+gen_jumps+gen_junction+gen_not+gen_operand+gen_pair+gen_ternary+gen_test+gen_two.Lts-gen_cond_value as lts
 use Rattle.rules.proofs.cycle.+gen_arms+gen_bin_op+gen_branch+gen_code_inner+gen_cond_value+gen_into+gen_jumps+gen_junction+gen_not+gen_operand+gen_pair+gen_ternary+gen_test+gen_two.Proof.Measures.{gen-jumps-below, gen-cond-value-at}

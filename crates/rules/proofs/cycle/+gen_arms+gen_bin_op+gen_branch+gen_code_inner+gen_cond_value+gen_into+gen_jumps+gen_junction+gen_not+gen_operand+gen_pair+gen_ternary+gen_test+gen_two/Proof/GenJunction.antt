@@ -6,7 +6,7 @@ use Rattle.rules.proofs.Branches.{junction-stop, junction-branch}
 use Rattle.rules.proofs.Walk.{rules, inner, junction-over, child-jumps, ready-child, ready-jumps}
 use Rattle.rules.proofs.cycle.gen_jumps.Reads as gen-jumps
 use Rattle.rules.proofs.cycle.gen_junction.Reads as gen-junction
-use Rattle.emit.proofs.jump.join.Reads as join-reads
+use Rattle.jump.proofs.join.Reads as join-reads
 use Rattle.table.proofs.child_1.Reads as child-1-reads
 use Rattle.table.proofs.child_2.Reads as child-2-reads
 use Rattle.rules.proofs.cycle.+gen_arms+gen_bin_op+gen_branch+gen_code_inner+gen_cond_value+gen_into+gen_jumps+gen_junction+gen_not+gen_operand+gen_pair+gen_ternary+gen_test+gen_two.Lts-gen_junction as lts

@@ -5,8 +5,8 @@ use Rattle.rules.proofs.Branches.{pair-stop, pair-branch}
 use Rattle.rules.proofs.Walk.{rules, inside, child-operand, ready-after}
 use Rattle.rules.proofs.cycle.gen_operand.Reads as gen-operand
 use Rattle.rules.proofs.cycle.gen_pair.Reads as gen-pair
-use Rattle.emit.proofs.fold.cmp_branch.Reads as cmp-branch-reads
-use Rattle.emit.proofs.jump.jump_pair.Reads as jump-pair-reads
+use Rattle.kinds.proofs.cmp_branch.Reads as cmp-branch-reads
+use Rattle.jump.proofs.jump_pair.Reads as jump-pair-reads
 use Rattle.table.proofs.child_1.Reads as child-1-reads
 use Rattle.table.proofs.child_2.Reads as child-2-reads
 use Rattle.table.proofs.kind_at.Reads as kind-at-reads

@@ -5,8 +5,8 @@ use Rattle.rules.proofs.Walk.{rules, picked-both, picked-one, pair-kind
 use Rattle.rules.proofs.cycle.gen_operand.Reads as gen-operand
 use Rattle.rules.proofs.cycle.gen_pair.Reads as gen-pair
 use Rattle.rules.proofs.cycle.gen_test.Reads as gen-test
-use Rattle.emit.proofs.fold.test_of.Reads as test-of-reads
-use Rattle.emit.proofs.jump.jump_one.Reads as jump-one-reads
+use Rattle.fold.proofs.test_of.Reads as test-of-reads
+use Rattle.jump.proofs.jump_one.Reads as jump-one-reads
 use Rattle.rules.proofs.cycle.+gen_arms+gen_bin_op+gen_branch+gen_code_inner+gen_cond_value+gen_into+gen_jumps+gen_junction+gen_not+gen_operand+gen_pair+gen_ternary+gen_test+gen_two.Lts-gen_test as lts
 use Rattle.rules.proofs.cycle.+gen_arms+gen_bin_op+gen_branch+gen_code_inner+gen_cond_value+gen_into+gen_jumps+gen_junction+gen_not+gen_operand+gen_pair+gen_ternary+gen_test+gen_two.Proof.Measures.{gen-operand-below, gen-pair-below, gen-test-at}
 

@@ -4,7 +4,7 @@ use Rattle.rules.proofs.Values.{two-stop, two-value}
 use Rattle.rules.proofs.Walk.{rules, inside, child-operand, ready-after}
 use Rattle.rules.proofs.cycle.gen_operand.Reads as gen-operand
 use Rattle.rules.proofs.cycle.gen_two.Reads as gen-two
-use Rattle.emit.proofs.fold.three_of.Reads as three-of-reads
+use Rattle.kinds.proofs.three_of.Reads as three-of-reads
 use Rattle.emit.proofs.word.put_three.Reads as put-three-reads
 use Rattle.table.proofs.child_1.Reads as child-1-reads
 use Rattle.table.proofs.child_2.Reads as child-2-reads

@@ -1,0 +1,3 @@
+-- Laws of folds and tests.
+pub mod FoldLaws
+pub mod TestLaws

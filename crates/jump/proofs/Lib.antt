@@ -1,0 +1,2 @@
+-- Laws of branches and patching.
+pub mod JumpLaws

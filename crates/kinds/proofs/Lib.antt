@@ -1,0 +1,2 @@
+-- Laws of the operators by their kinds.
+pub mod KindLaws

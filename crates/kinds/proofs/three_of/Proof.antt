@@ -1,0 +1,19 @@
+-- `kinds::three_of` meets its contract: by the kind of the operator. Assumes nothing.
+use Rattle.kinds.proofs.KindLaws.{three-arm, three-last}
+use Rattle.kinds.proofs.three_of.Statement.{statement}
+use Rattle.kinds.proofs.three_of.Tie as tie
+
+pub three-of-spec : {M : Type 1} → statement M
+three-of-spec =
+    tie.close
+    (tie.spec
+    (λ c. search (three-arm, three-last))
+    (λ c. search (three-arm, three-last))
+    (λ c. search (three-arm, three-last))
+    (λ c. search (three-arm, three-last))
+    (λ c. search (three-arm, three-last))
+    (λ c. search (three-arm, three-last))
+    (λ c. search (three-arm, three-last))
+    (λ c. search (three-arm, three-last))
+    (λ c. search (three-arm, three-last))
+    (λ c. search (three-arm, three-last)))

@@ -1,0 +1,2 @@
+-- Laws of literals.
+pub mod Literals

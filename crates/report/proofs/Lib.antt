@@ -1,0 +1,3 @@
+-- Laws of what is left behind.
+pub mod Ends
+pub mod Fills
