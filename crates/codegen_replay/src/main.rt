@@ -70,14 +70,7 @@ fn answer(
 }
 
 // The buffers are new in every record and hold no zero, so that what compiling zeroes shows.
-fn replay(nodes: &mut [u64]) {
-    let n = wire::read_word();
-    let params = wire::read_word();
-    let locals = wire::read_word();
-    let dest = wire::read_word();
-    let words = wire::read_word();
-    let slots = wire::read_word();
-    wire::read_words(nodes, n);
+fn serve(n: u64, nodes: &[u64], params: u64, locals: u64, dest: u64, words: u64, slots: u64) {
     let mut code = [0xa5a5_a5a5_a5a5_a5a5u64; WORDS];
     let mut kinds = [0xa5u8; SLOTS];
     let mut payloads = [0xa5a5_a5a5_a5a5_a5a5u64; SLOTS];
@@ -95,10 +88,21 @@ fn replay(nodes: &mut [u64]) {
     );
 }
 
-fn main() {
+fn replay() {
+    let n = wire::read_word();
+    let params = wire::read_word();
+    let locals = wire::read_word();
+    let dest = wire::read_word();
+    let words = wire::read_word();
+    let slots = wire::read_word();
     let mut nodes = [0u64; TABLE_WORDS];
+    wire::read_words(&mut nodes, n);
+    serve(n, &nodes, params, locals, dest, words, slots);
+}
+
+fn main() {
     let n = wire::read_word();
     for _ in 0..n {
-        replay(&mut nodes);
+        replay();
     }
 }

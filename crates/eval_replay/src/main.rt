@@ -40,16 +40,18 @@ fn write_answer(a: Answer) {
     }
 }
 
-fn replay(words: &mut [u64], kinds: &mut [u8], payloads: &mut [u64]) {
-    let n = wire::read_word();
-    let params = wire::read_word();
-    let locals = wire::read_word();
-    let dest = wire::read_word();
-    let nk = wire::read_word();
-    let np = wire::read_word();
-    wire::read_words(words, n);
-    wire::read_bytes(kinds, nk);
-    wire::read_words(payloads, np);
+// What was read, as much of each as was announced.
+fn serve(
+    n: u64,
+    words: &[u64],
+    params: u64,
+    locals: u64,
+    dest: u64,
+    nk: u64,
+    kinds: &[u8],
+    np: u64,
+    payloads: &[u64],
+) {
     let w = within(n, words.len());
     let k = within(nk, kinds.len());
     let p = within(np, payloads.len());
@@ -57,12 +59,25 @@ fn replay(words: &mut [u64], kinds: &mut [u8], payloads: &mut [u64]) {
     write_answer(eval::evaluate(&words[..w], params, locals, &kinds[..k], &payloads[..p]));
 }
 
-fn main() {
+fn replay() {
+    let n = wire::read_word();
+    let params = wire::read_word();
+    let locals = wire::read_word();
+    let dest = wire::read_word();
+    let nk = wire::read_word();
+    let np = wire::read_word();
     let mut words = [0u64; TABLE_WORDS];
     let mut kinds = [0u8; LOCALS];
     let mut payloads = [0u64; LOCALS];
+    wire::read_words(&mut words, n);
+    wire::read_bytes(&mut kinds, nk);
+    wire::read_words(&mut payloads, np);
+    serve(n, &words, params, locals, dest, nk, &kinds, np, &payloads);
+}
+
+fn main() {
     let n = wire::read_word();
     for _ in 0..n {
-        replay(&mut words, &mut kinds, &mut payloads);
+        replay();
     }
 }

@@ -1,26 +1,14 @@
 -- `codegen_replay::main` ends: the loop counts the records. Assumes nothing.
-use mathlib.Core.Path.{_≡_}
 use Prim.Native.Nat.{_-_}
 use borrow.Author.Needs.{needs}
-use lib.ListN.{length}
 use Rattle.codegen_replay.proofs.main.Statement.{statement}
 use Rattle.codegen_replay.proofs.main.Tie as tie
 
 abbrev Inv-loop : tie.InvT-loop
-Inv-loop nodes₀ n counter₀ nodes counter = 16388 ≡ length nodes
+Inv-loop n counter₀ counter = Unit {0}
 
 abbrev μ-loop : tie.MeasureT-loop
-μ-loop nodes₀ n counter₀ nodes counter = n - counter
+μ-loop n counter₀ counter = n - counter
 
 pub main-spec : {M : Type 1} → statement M
-main-spec =
-    tie.close
-    (tie.spec Inv-loop μ-loop
-    (λ c κs. search needs)
-    (λ c. search needs)
-    (λ c. search needs)
-    (λ c κs. search needs)
-    (λ c. search needs)
-    (λ c. search needs)
-    (λ c. search needs)
-    (λ c. search needs))
+main-spec = tie.close (tie.spec Inv-loop μ-loop (λ c κs. search needs) (λ c. search needs) (λ c κs. search needs) (λ c. search needs) (λ c. search needs) (λ c. search needs) (λ c. search needs))
