@@ -10,8 +10,13 @@ tests/c/run.sh "$archive"
 [ "$(uname -m)" = x86_64 ] || { echo "boundary: the rest links the archive natively, on x86-64 alone"; exit 0; }
 export VOSEMAQE_LIB=${archive%/*}
 mkdir -p bindings/rust/target
+# the comparison with the Rust beside the rest: each has a core
+logs=$(mktemp -d)
+trap 'rm -rf "$logs"' EXIT
+(tools/large.sh 20000 && tools/stack.sh 200 | grep '^stack:') >"$logs/large" 2>&1 &
+large=$!
 (cd bindings/rust && cargo test --offline --locked --quiet --doc >target/doc.log 2>&1) || { cat bindings/rust/target/doc.log; exit 1; }
 echo "bindings: $(grep -o '[0-9]* passed' bindings/rust/target/doc.log) of the Rust crate's examples"
 tools/fuzz.sh "${1:-200000}" 1 5000
-tools/large.sh 20000
-tools/stack.sh 200 | grep '^stack:'
+wait "$large" || { cat "$logs/large"; exit 1; }
+cat "$logs/large"

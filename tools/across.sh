@@ -1,7 +1,7 @@
 #!/bin/sh
 # Shortcuts made in a definition and in its code alike, so that the crate they stand in still proves them: the claim must refuse each.
 # tools/across.sh [LABEL..]: the edits under tools/across/, each in a copy of the repository; one line for each, then a count.
-# The computed samples of rules are left out of the copy. They would refuse each edit first; what is asked is that the theorem does.
+# The computed samples of generator are left out of the copy. They would refuse each edit first; what is asked is that the theorem does.
 set -u
 root=$(cd "$(dirname "$0")/.." && pwd)
 work=$(mktemp -d)
@@ -39,7 +39,7 @@ one() { # EDIT
     cp -R "$root/crates" "$root/crates.txt" "$work/copy/"
     [ ! -d "$root/target" ] || cp -R "$root/target" "$work/copy/target"
     cd "$work/copy" || exit 1
-    for crate in rules; do
+    for crate in generator; do
         sed -i '/^pub mod Samples$/d' "crates/$crate/proofs/Lib.antt"
         rm -f "crates/$crate/proofs/Samples.antt"
     done

@@ -22,11 +22,11 @@ use Rattle.emit.specs.declared.state.Ans.{Ans}
 use Rattle.emit.specs.declared.state.Ans.the-variants.{Got, No}
 use Rattle.emit.specs.State.{Res, done, fail, State}
 use Rattle.emit.specs.Read.{Bufs, bufs, stOf, constAt, read, Fit, Says}
-use Rattle.rules.specs.Gen.{gen}
+use Rattle.generator.specs.Gen.{gen}
 use Rattle.codegen.specs.Compile.{start, dstOf, rootD, generated, accepted, compileOf, Root, IsRegister}
 use Rattle.report.specs.Report.{padded, zeroed, Made, Compiles}
 use Rattle.emit.proofs.Laws.{kept, says-by}
-use Rattle.rules.proofs.Room.{same-room, into-same}
+use Rattle.generator.proofs.Room.{same-room, into-same}
 
 -- ---- a checked table
 

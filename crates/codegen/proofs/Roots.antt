@@ -12,7 +12,7 @@ use Rattle.emit.specs.declared.state.Dst.the-variants.{Any, To}
 use Rattle.emit.specs.declared.state.Ans.{Ans}
 use Rattle.emit.specs.State.{State}
 use Rattle.emit.specs.Read.{Bufs, bufs, Says}
-use Rattle.rules.specs.Gen.{Value, intoD}
+use Rattle.generator.specs.Gen.{Value, intoD}
 use Rattle.rules.specs.Rules.{Ready}
 use Rattle.codegen.specs.Compile.{Root, IsRegister, dstOf, rootD}
 use Rattle.emit.proofs.Laws.{says-by}

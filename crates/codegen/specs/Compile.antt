@@ -9,7 +9,7 @@ use Rattle.table.specs.Tree.{Tree, tree}
 use Rattle.emit.specs.declared.state.Dst.{Dst}
 use Rattle.emit.specs.declared.state.Dst.the-variants.{Any, To}
 use Rattle.emit.specs.State.{Res, fail, State}
-use Rattle.rules.specs.Gen.{Value, intoD, gen}
+use Rattle.generator.specs.Gen.{Value, intoD, gen}
 
 -- nothing is emitted yet, and the first free register is the base
 abbrev pub start : ℕ → ℕ → ℕ → State

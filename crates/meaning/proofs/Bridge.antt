@@ -38,7 +38,7 @@ use Rattle.emit.specs.State.{Res, done, bind, State, release, emitD}
 use Rattle.jump.specs.Jump.{jumpD}
 use Rattle.emit.specs.Steps.{putD, putTo, loadOp, rawNil, rawTrue, rawFalse, rawInt, constTo, constD, leafD, moveTo}
 use Rattle.jump.specs.Jump.{leapTo, oneTo, pairTo, junctionTo, trueD, boolD, turnD}
-use Rattle.rules.specs.Gen.{Value, Branch, leafV, oneV, twoV, operand, binaryV, intoD, condV, armsD, ternaryV, oneB, testB, pairB, compareB, same, junctionB, Gen, plain, condition, unaryG, binaryG, gen}
+use Rattle.generator.specs.Gen.{Value, Branch, leafV, oneV, twoV, operand, binaryV, intoD, condV, armsD, ternaryV, oneB, testB, pairB, compareB, same, junctionB, Gen, plain, condition, unaryG, binaryG, gen}
 use Rattle.meaning.proofs.Frag.{DstLow, Vf, Bf, ValueF, BranchF, Frag, dReg, dNext, dNeed, constOp, movOp, aimed, jmpBy, testOn, pairOn, immOn, loadF, constF, intF, leafF, moved, intoF, binaryF, unaryTestF, binaryTestF, tailF, operandF, arithF, compareF, condF, ternF, juncF, juncB, plainF, conditionF, unaryN, binaryN, frag}
 use Rattle.meaning.proofs.Fits.{word, wordsOf, Fits, AllFit, all-append, nil-fits, true-fits, false-fits, int-fits, const-fits, mov-fits, three-fits, TailFits, tail-fits, far, BranchFits, branch-fits}
 use Rattle.meaning.proofs.Folds.{ImmFits, FoldFits, fold-fits, imm16-fits}

@@ -33,7 +33,7 @@ use Rattle.literal.specs.Literal.{fitsImm40, asImm16}
 use Rattle.fold.specs.Fold.{foldOf, minusOne, tailOp}
 use Rattle.kinds.specs.Kinds.{threeOf, mirror, branchOf}
 use Rattle.emit.specs.Steps.{loadOp, rawNil, rawTrue, rawFalse, rawInt}
-use Rattle.rules.specs.Gen.{same}
+use Rattle.generator.specs.Gen.{same}
 
 -- ---- the words
 

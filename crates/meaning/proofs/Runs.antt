@@ -20,7 +20,7 @@ use Rattle.machine.specs.Step.{Next, go, put, stop, settleOf, putOf, branchOf, 
 use Rattle.machine.specs.Datums.{valueAt}
 use Rattle.emit.specs.declared.state.Dst.{Dst}
 use Rattle.emit.specs.declared.state.Dst.the-variants.{Any, To}
-use Rattle.rules.specs.Gen.{same}
+use Rattle.generator.specs.Gen.{same}
 use Rattle.meaning.proofs.Frag.{NotDst, DstLow, Vf, Bf, dReg, dNext, dNeed, jmpBy}
 
 -- ---- what a test comes to: a Bool, or the number of a fault

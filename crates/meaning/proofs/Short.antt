@@ -23,7 +23,7 @@ use Rattle.literal.specs.Literal.{fitsImm40, asImm16}
 use Rattle.fold.specs.Fold.{foldOf, minusOne, tailOp}
 use Rattle.kinds.specs.Kinds.{threeOf, mirror, branchOf}
 use Rattle.emit.specs.Steps.{loadOp, rawTrue, rawFalse}
-use Rattle.rules.specs.Gen.{same}
+use Rattle.generator.specs.Gen.{same}
 use Rattle.meaning.proofs.Frag.{Vf, Bf, ValueF, BranchF, Frag, dReg, dNext, movOp, aimed, jmpBy, testOn, pairOn, immOn, leafF, intF, moved, intoF, second, unaryF, binaryF, unaryTestF, binaryTestF, tailF, operandF, arithF, compareF, condF, ternF, juncB, plainF, conditionF, unaryN, binaryN, frag}
 
 pub record Small (F : Vf) (w : ℕ) : Type 0 where

@@ -20,7 +20,7 @@ use Rattle.machine.specs.Step.{putOf, stop}
 use Rattle.machine.specs.Datums.{valueAt}
 use Rattle.emit.specs.declared.state.Dst.{Dst}
 use Rattle.emit.specs.declared.state.Dst.the-variants.{Any, To}
-use Rattle.rules.specs.Gen.{same}
+use Rattle.generator.specs.Gen.{same}
 use Rattle.emit.specs.Steps.{loadOp}
 use Rattle.meaning.proofs.Frag.{DstLow, Vf, Bf, dReg, dNext, dNeed, constOp, movOp, aimed, jmpBy, opF, refF, leapF, moved, intoF, joinF, juncF}
 use Rattle.meaning.proofs.Runs.{Truth, truth, wrong, test, sameT}

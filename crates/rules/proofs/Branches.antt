@@ -24,9 +24,9 @@ use Rattle.fold.specs.Fold.{Picked, one, both, pickOf}
 use Rattle.jump.specs.Jump.{oneTo, pairTo, junctionTo}
 use Rattle.emit.specs.Read.{Bufs, bufs, stOf, Says}
 use Rattle.jump.specs.Lists.{readJumps, FitJumps, Lists, AfterJumping, Joined}
-use Rattle.rules.specs.Gen.{gen, oneB, pairB, junctionB, same}
+use Rattle.generator.specs.Gen.{gen, oneB, pairB, junctionB, same}
 use Rattle.rules.specs.Rules.{valueAt, branchAt, Ready, IsTest, IsPair, IsJunction}
-use Rattle.rules.proofs.Gens.{Alone, pick-one, pick-both}
+use Rattle.generator.proofs.Gens.{Alone, pick-one, pick-both}
 use Rattle.rules.proofs.Parts.{stop-lists, chain-lists, go-jumps, stop-jumps, lists-by, left-is, both-steps}
 use Rattle.rules.proofs.Walk.{junction-over, junction-under}
 

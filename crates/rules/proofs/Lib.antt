@@ -1,8 +1,5 @@
 -- The laws that the proofs of the rules, and of what stands on them, cite.
-pub mod Gens
 pub mod Parts
 pub mod Walk
 pub mod Values
 pub mod Branches
-pub mod Room
-pub mod Samples

@@ -16,7 +16,7 @@ use Rattle.jump.specs.declared.Jumps.the-variants as J
 use Rattle.emit.specs.State.{Res, done, fail, bind, State}
 use Rattle.emit.specs.Read.{Bufs, bufs, stOf, read, Fit, FitAns, Says}
 use Rattle.jump.specs.Lists.{readJumps, FitJumps, Lists, Counted, Behind}
-use Rattle.rules.specs.Gen.{same}
+use Rattle.generator.specs.Gen.{same}
 use Rattle.rules.specs.Rules.{valueAt}
 use Rattle.emit.proofs.Laws.{go, says-by}
 

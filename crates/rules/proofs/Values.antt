@@ -29,10 +29,10 @@ use Rattle.jump.specs.Jump.{boolD, turnD}
 use Rattle.emit.specs.Read.{Bufs, bufs, stOf, Fit, Says, Steps, After}
 use Rattle.jump.specs.Lists.{Lists}
 use Rattle.fold.specs.Nodes.{Operand}
-use Rattle.rules.specs.Gen.{gen, leafV, oneV, twoV, intoD, condV, armsD, ternaryV}
+use Rattle.generator.specs.Gen.{gen, leafV, oneV, twoV, intoD, condV, armsD, ternaryV}
 use Rattle.rules.specs.Rules.{valueAt, branchAt, Ready, IsGeneral, IsCondition, IsTernary}
 use Rattle.emit.proofs.Laws.{go, stop, kept, says-by, chain}
-use Rattle.rules.proofs.Gens.{fold-is, general-is}
+use Rattle.generator.proofs.Gens.{fold-is, general-is}
 use Rattle.rules.proofs.Parts.{go-jumps, stop-says, kept-jumps, left-is, both-steps}
 
 -- the value rule of a tree

@@ -1,3 +1,2 @@
--- What the contracts of the rules cite: what each tree gives, and what a rule says at a node.
-pub mod Gen
+-- What the contracts of the rules cite: what a rule says at a node.
 pub mod Rules

@@ -16,7 +16,7 @@ use Rattle.fold.specs.Fold.{opFold, pickOf, both}
 use Rattle.kinds.specs.Kinds.{isJunction}
 use Rattle.emit.specs.Read.{Bufs, bufs, stOf, Fit, Says}
 use Rattle.jump.specs.Lists.{Lists}
-use Rattle.rules.specs.Gen.{Value, Branch, intoD, armsD, gen}
+use Rattle.generator.specs.Gen.{Value, Branch, intoD, armsD, gen}
 
 -- the rules of the tree at node i
 abbrev pub valueAt : List ℕ → ℕ → Value

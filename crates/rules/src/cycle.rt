@@ -29,7 +29,7 @@ ghost use lib.ListN.{length, take};
 ghost use Rattle.table.specs.Table.{child1, child2};
 ghost use Rattle.emit.specs.Read.{bufs, stOf, Says};
 ghost use Rattle.jump.specs.Lists.{Lists};
-ghost use Rattle.rules.specs.Gen.{armsD, intoD};
+ghost use Rattle.generator.specs.Gen.{armsD, intoD};
 ghost use Rattle.rules.specs.Rules.{valueAt, branchAt, Ready, IsOperator, IsGeneral, IsCondition, IsTernary, IsNot, IsTest, IsPair, IsJunction};
 
 // The value of node i. An expression that has to write somewhere writes to dst; a Ref answers its own register.

@@ -19,7 +19,7 @@ use Rattle.emit.specs.State.{Res, State}
 use Rattle.fold.specs.Fold.{foldOf, opFold, leftOf, operandOf, takesShift, Picked, one, both, comparePick, pickOf}
 use Rattle.kinds.specs.Kinds.{threeOf, branchOf}
 use Rattle.literal.specs.Literal.{asImm16}
-use Rattle.rules.specs.Gen.{Value, gen, leafV, oneV, twoV, operand, binaryV, condV, oneB, pairB, compareB, junctionB, ternaryV}
+use Rattle.generator.specs.Gen.{Value, gen, leafV, oneV, twoV, operand, binaryV, condV, oneB, pairB, compareB, junctionB, ternaryV}
 
 -- `first` is the left operand's value
 pub first-is : (t : Tree) → gen t .first ≡ gen (leftOf t) .value

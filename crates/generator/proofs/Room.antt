@@ -30,7 +30,7 @@ use Rattle.fold.specs.Fold.{foldOf, minusOne}
 use Rattle.kinds.specs.Kinds.{threeOf, mirror, branchOf}
 use Rattle.emit.specs.Steps.{leafD, tailTo, threeTo, moveTo}
 use Rattle.jump.specs.Jump.{leapTo, oneTo, pairTo, junctionTo, boolD, turnD}
-use Rattle.rules.specs.Gen.{Value, Branch, leafV, oneV, twoV, operand, binaryV, intoD, condV, armsD, ternaryV, oneB, testB, pairB, compareB, same, junctionB, Gen, plain, condition, unaryG, binaryG, gen}
+use Rattle.generator.specs.Gen.{Value, Branch, leafV, oneV, twoV, operand, binaryV, intoD, condV, armsD, ternaryV, oneB, testB, pairB, compareB, same, junctionB, Gen, plain, condition, unaryG, binaryG, gen}
 
 -- ---- what holds of every answer that is no refusal
 

@@ -15,7 +15,7 @@ use Rattle.fold.specs.Fold.{shiftBy, shiftedBy, foldBy}
 use Rattle.emit.specs.Steps.{leafD, putD, putTo, moveTo, constD, constTo}
 use Rattle.jump.specs.Jump.{leapTo, junctionTo, boolD, trueD, turnD}
 use Rattle.patch.specs.Patch.{patchOf, patchAll, aimWord, reachOf}
-use Rattle.rules.specs.Gen.{gen, leafV, oneV, twoV, binaryV, intoD, condV, armsD, ternaryV, oneB, pairB, compareB, junctionB}
+use Rattle.generator.specs.Gen.{gen, leafV, oneV, twoV, binaryV, intoD, condV, armsD, ternaryV, oneB, pairB, compareB, junctionB}
 use Rattle.insns.specs.declared.op.Op.{Op}
 use Rattle.insns.specs.declared.op.Cmp.the-variants as Jump
 use Rattle.insns.specs.declared.Made.the-variants.{Fits, Refused}

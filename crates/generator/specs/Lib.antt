@@ -1,0 +1,2 @@
+-- The rules of document 01, over the tree.
+pub mod Gen

@@ -1,0 +1,1 @@
+// The definition of the rules, and laws of it alone: no code.
