@@ -1,7 +1,7 @@
 #!/bin/sh
 # Shortcuts made in a definition and in its code alike, so that the crate they stand in still proves them: the claim must refuse each.
 # tools/across.sh [LABEL..]: the edits under tools/across/, each in a copy of the repository; one line for each, then a count.
-# The computed samples of generator are left out of the copy. They would refuse each edit first; what is asked is that the theorem does.
+# The computed samples of codegen are left out of the copy. They would refuse each edit first; what is asked is that the theorem does.
 set -u
 root=$(cd "$(dirname "$0")/.." && pwd)
 work=$(mktemp -d)
@@ -39,7 +39,7 @@ one() { # EDIT
     cp -R "$root/crates" "$root/crates.txt" "$work/copy/"
     [ ! -d "$root/target" ] || cp -R "$root/target" "$work/copy/target"
     cd "$work/copy" || exit 1
-    for crate in generator; do
+    for crate in codegen; do
         sed -i '/^pub mod Samples$/d' "crates/$crate/proofs/Lib.antt"
         rm -f "crates/$crate/proofs/Samples.antt"
     done
@@ -51,11 +51,11 @@ one() { # EDIT
     began=$(date +%s)
     rt check claim >log 2>&1
     took=$(($(date +%s) - began))
-    below=$(grep 'NOT PROVED' log | grep -v '^rt: \(meaning\|claim\) ' | head -n 1)
-    first=$(grep -m 1 -o 'crates/\(meaning\|claim\)/proofs/[^ ]*: error: `[^`]*`' log)
+    below=$(grep 'NOT PROVED' log | grep -v '^rt: claim ' | head -n 1)
+    first=$(grep -m 1 -o 'crates/claim/proofs/[^ ]*: error: `[^`]*`' log)
     if [ -n "$below" ]; then
         echo "across $label: NOT REACHED: $below ($took s)"
-    elif grep -q '^rt: \(meaning\|claim\) NOT PROVED' log && [ -n "$first" ]; then
+    elif grep -q '^rt: claim NOT PROVED' log && [ -n "$first" ]; then
         echo "across $label: the claim refuses it, first at ${first#crates/} ($took s)"
         refused=$((refused + 1))
     else

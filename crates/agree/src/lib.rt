@@ -1,11 +1,13 @@
-// The machine and the evaluator side by side: a table is compiled and evaluated, and its words are run.
-use answer::Answer;
-use codegen::compile::compile;
+// The machine and the evaluator side by side: a table is compiled and evaluated, and its words are run (`side_by_side`).
+pub mod side_by_side;
+
+use crate::side_by_side::evaluate_and_run;
+use compile::buffers::Compiled;
+use compile::compile;
 use eval::evaluate;
 use machine::run::Ran;
-use pair::evaluate_and_run;
-use report::Compiled;
 use table::Dest;
+use value::answer::Answer;
 ghost use Prim.Native.Nat.{_<_, _^_};
 ghost use lib.ListN.{length};
 ghost use Rattle.ops.specs.Ops.{resultOf};

@@ -20,15 +20,15 @@ use Rattle.fold.specs.declared.Tail.{Tail}
 use Rattle.fold.specs.declared.Tail.the-variants as Tail
 use Rattle.fold.specs.declared.Fold.{Fold}
 use Rattle.fold.specs.declared.Fold.the-variants.{Into, General}
-use Rattle.literal.specs.declared.Imm.{Imm}
-use Rattle.literal.specs.declared.Imm.the-variants.{Imm16, NoImm}
+use Rattle.fold.specs.declared.literal.Imm.{Imm}
+use Rattle.fold.specs.declared.literal.Imm.the-variants.{Imm16, NoImm}
 use Rattle.insns.specs.declared.op.Three.{Three}
-use Rattle.literal.specs.Literal.{fitsImm40, asImm16}
+use Rattle.fold.specs.Literal.{fitsImm40, asImm16}
 use Rattle.fold.specs.Fold.{foldOf}
-use Rattle.kinds.specs.Kinds.{threeOf}
-use Rattle.report.specs.Report.{padded}
+use Rattle.fold.specs.Opcodes.{threeOf}
+use Rattle.compile.specs.Buffers.{padded}
 use Rattle.claim.specs.Claim.{Slots}
-use Rattle.meaning.proofs.Frag.{ValueF, BranchF, Frag, dReg, dNext, leafF, intF, intoF, second, operandF, arithF, compareF, condF, ternF, juncB, unaryN, binaryN, frag}
+use Rattle.claim.proofs.fragments.Frag.{ValueF, BranchF, Frag, dReg, dNext, leafF, intF, intoF, second, operandF, arithF, compareF, condF, ternF, juncB, unaryN, binaryN, frag}
 use Rattle.claim.proofs.Pairs.{payload-low}
 
 -- ---- constants that a lent pair can hold

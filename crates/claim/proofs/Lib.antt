@@ -5,3 +5,4 @@ pub mod Theorem
 pub mod Placed
 pub mod Places
 pub mod Entry
+pub mod fragments

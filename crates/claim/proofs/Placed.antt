@@ -14,12 +14,12 @@ use Rattle.emit.specs.declared.state.Dst.the-variants.{Any}
 use Rattle.fold.specs.declared.Fold.{Fold}
 use Rattle.fold.specs.declared.Fold.the-variants.{Into, General}
 use Rattle.insns.specs.declared.op.Three.{Three}
-use Rattle.literal.specs.Literal.{fitsImm40}
+use Rattle.fold.specs.Literal.{fitsImm40}
 use Rattle.fold.specs.Fold.{foldOf}
-use Rattle.kinds.specs.Kinds.{threeOf}
+use Rattle.fold.specs.Opcodes.{threeOf}
 use Rattle.emit.specs.State.{State}
 use Rattle.claim.specs.Claim.{Accepted, Placed, homeOf, registerOf}
-use Rattle.meaning.proofs.Frag.{Vf, ValueF, intF, arithF, frag}
+use Rattle.claim.proofs.fragments.Frag.{Vf, ValueF, intF, arithF, frag}
 use Rattle.claim.proofs.Theorem.{DestLow, whole, made, checked, low-more, known}
 
 -- a fragment's register, and that it is below what the fragment reaches

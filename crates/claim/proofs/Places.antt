@@ -5,8 +5,8 @@ use Prim.Native.Nat.{ℕ, zero, suc, _+_, _-_, _*_, _≤_}
 use Rattle.table.specs.Table.{nodeCount, checkOf}
 use Rattle.table.specs.Tree.{tree}
 use Rattle.table.specs.declared.Dest.{Dest}
-use Rattle.codegen.specs.Compile.{generated, accepted, compileOf}
-use Rattle.codegen.proofs.Entries.{enough}
+use Rattle.compile.specs.Compile.{generated, accepted, compileOf}
+use Rattle.compile.proofs.Entries.{enough}
 
 -- With any two such lists compiling gives the same. For 4,096 nodes 2,048 places are enough.
 pub places-enough :

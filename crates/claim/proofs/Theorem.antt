@@ -27,21 +27,21 @@ use Rattle.machine.specs.Datums.{valueAt}
 use Rattle.machine.specs.declared.run.Ran.{Ran}
 use Rattle.emit.specs.declared.state.Dst.the-variants.{Any, To}
 use Rattle.emit.specs.State.{Res, done, fail, State}
-use Rattle.codegen.specs.Gen.{gen}
-use Rattle.codegen.specs.Compile.{start, dstOf, rootD, generated, accepted, compileOf}
-use Rattle.report.specs.Report.{padded}
+use Rattle.compile.specs.Gen.{gen}
+use Rattle.compile.specs.Compile.{start, dstOf, rootD, generated, accepted, compileOf}
+use Rattle.compile.specs.Buffers.{padded}
 use Rattle.claim.specs.Claim.{Accepted, Values, Slots, Lent, reportOf, kindsOf, payloadsOf, Holds, Alike, Unchanged, NotDest, Kept, InDest, Agrees, Promised, Lacks, register, slot, room}
-use Rattle.meaning.proofs.Frag.{Vf, frag, intoF, NotDst}
-use Rattle.meaning.proofs.Fits.{wordsOf, AllFit, far}
-use Rattle.meaning.proofs.Runs.{Keep, Good, value-in}
-use Rattle.meaning.proofs.Laws.{and-both}
-use Rattle.meaning.proofs.Sound.{into-sound}
-use Rattle.meaning.proofs.Trees.{sound}
-use Rattle.meaning.proofs.Short.{words, words-size}
-use Rattle.meaning.proofs.Whole.{at-self, words-length, Told, Left, Fixed, fixed}
-use Rattle.meaning.proofs.Steps.{Wants, Met, met, refused, met-then, st}
-use Rattle.meaning.proofs.Steps as Steps
-use Rattle.meaning.proofs.Bridge.{gen-met, into-met}
+use Rattle.claim.proofs.fragments.Frag.{Vf, frag, intoF, NotDst}
+use Rattle.claim.proofs.fragments.Fits.{wordsOf, AllFit, far}
+use Rattle.claim.proofs.fragments.Runs.{Keep, Good, value-in}
+use Rattle.claim.proofs.fragments.Laws.{and-both}
+use Rattle.claim.proofs.fragments.Sound.{into-sound}
+use Rattle.claim.proofs.fragments.Trees.{sound}
+use Rattle.claim.proofs.fragments.Short.{words, words-size}
+use Rattle.claim.proofs.fragments.Whole.{at-self, words-length, Told, Left, Fixed, fixed}
+use Rattle.claim.proofs.fragments.Steps.{Wants, Met, met, refused, met-then, st}
+use Rattle.claim.proofs.fragments.Steps as Steps
+use Rattle.claim.proofs.fragments.Bridge.{gen-met, into-met}
 use Rattle.claim.proofs.Consts.{AllHeld, TreeHeld, frag-held, tree-held, left-slots}
 use Rattle.claim.proofs.Pairs.{Wide, wide-values, run-same, same-report, same-wide, pair-is}
 

@@ -18,9 +18,9 @@ use Rattle.eval.specs.Evaluate.{evaluateOf}
 use Rattle.machine.specs.Run.{Out, out, ran, runOf}
 use Rattle.machine.specs.declared.run.Ran.{Ran}
 use Rattle.emit.specs.State.{Res, done, fail, State}
-use Rattle.report.specs.declared.Compiled.{Compiled}
-use Rattle.codegen.specs.Compile.{compileOf}
-use Rattle.report.specs.Report.{Compiles}
+use Rattle.compile.specs.declared.buffers.Compiled.{Compiled}
+use Rattle.compile.specs.Compile.{compileOf}
+use Rattle.compile.specs.Buffers.{Compiles}
 
 -- ---- what goes in
 

@@ -1,1 +1,1 @@
-// What is claimed of the words that compiling a table gives, and of a run of them, and that it holds: definitions and laws alone, no code.
+// Demand 3: what is claimed of compiled words and a run of them, and the theorem. Definitions and laws alone, no code.

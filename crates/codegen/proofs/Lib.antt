@@ -1,4 +1,8 @@
--- The laws that the proofs of compile cite.
+-- The laws that the proofs of `codegen` cite.
+pub mod Gens
+pub mod Room
+pub mod Samples
 pub mod Parts
-pub mod Roots
-pub mod Entries
+pub mod Walk
+pub mod Values
+pub mod Branches

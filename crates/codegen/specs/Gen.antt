@@ -1,3 +1,139 @@
--- The definition of the rules, passed on from `rules`. Assumes nothing.
-pub use Rattle.generator.specs.Gen.{Value, Branch, operand, testB, same, Gen, plain, condition, unaryG, binaryG}
-unfoldable pub use Rattle.generator.specs.Gen.{leafV, oneV, twoV, binaryV, intoD, condV, armsD, ternaryV, oneB, pairB, compareB, junctionB, gen}
+-- The generator: what each tree gives, as a value and as a branch. Branches are emitted with displacement 0 and patched once their target is known.
+-- Assumes nothing: these are definitions.
+use mathlib.Core.Bool.{Bool, true, false, not, cond}
+use mathlib.Core.List.{List}
+use Prim.Native.Nat.{ℕ, _-_}
+use lib.ListN.{length}
+use Rattle.table.specs.Tree.{Leaf, Unary, minus, neg, Arith, Cmp, Binary, arith, cmp, and, or, Tree, leaf, unary, binary, ternary}
+use Rattle.insns.specs.declared.op.Three.{Three}
+use Rattle.insns.specs.declared.op.Cmp.{Cmp as JumpCmp}
+use Rattle.emit.specs.declared.state.Dst.{Dst}
+use Rattle.emit.specs.declared.state.Dst.the-variants.{Any, To}
+use Rattle.fold.specs.declared.Tail.{Tail}
+use Rattle.fold.specs.declared.Tail.the-variants as Tail
+use Rattle.fold.specs.declared.Fold.{Fold}
+use Rattle.fold.specs.declared.Fold.the-variants.{Into, General}
+use Rattle.fold.specs.declared.literal.Imm.{Imm}
+use Rattle.fold.specs.declared.literal.Imm.the-variants.{Imm16, NoImm}
+use Rattle.fold.specs.declared.How.{How}
+use Rattle.fold.specs.declared.How.the-variants as How
+use Rattle.emit.specs.State.{Res, done, bind, State, here, destD}
+use Rattle.emit.specs.Jump.{patchD}
+use Rattle.fold.specs.Literal.{asImm16}
+use Rattle.fold.specs.Fold.{foldOf, minusOne}
+use Rattle.fold.specs.Opcodes.{threeOf, mirror, branchOf}
+use Rattle.emit.specs.Steps.{leafD, tailTo, threeTo, moveTo}
+use Rattle.emit.specs.Jump.{oneTo, pairTo, junctionTo, boolD, turnD}
+
+-- A value rule takes where the value is to go, the room in the jump list and the state, and gives the register that holds the value.
+-- A branch rule takes the sense that jumps, and gives the positions of the jumps, which are still to be patched.
+abbrev pub Value : Type 0
+Value = Dst → ℕ → State → Res (ℕ × State)
+
+abbrev pub Branch : Type 0
+Branch = Bool → ℕ → State → Res (List ℕ × State)
+
+-- ---- the rules, over those of the operands
+
+unfoldable pub leafV : Leaf → Value
+leafV l dst room s = leafD l dst s
+
+-- one operand, then an instruction of one register
+unfoldable pub oneV : Tail → Value → Value
+oneV tail a dst room s = bind (a Any room s) (tailTo tail dst (s .next))
+
+unfoldable pub twoV : Three → Value → Value → Value
+twoV op a b dst room s = bind (a Any room s) (λ x. bind (b Any room (x .1)) (threeTo op (x .0) dst (s .next)))
+
+-- the operand of a fold: a mask that takes in a right shift has the shift's left operand
+abbrev pub operand : Tail → Value → Value → Value
+operand Tail.Not a first = a
+operand (Tail.Imm o n) a first = a
+operand (Tail.Shift o k) a first = a
+operand (Tail.Mask lo len) a first = a
+operand (Tail.ShiftMask k lo len) a first = first
+
+-- a binary operator (`gen_bin_op`): a fold, or the general form
+unfoldable pub binaryV : Fold → Three → Value → Value → Value → Value
+binaryV (Into tail) op a first b dst room s = oneV tail (operand tail a first) dst room s
+binaryV General op a first b dst room s = twoV op a b dst room s
+
+-- a value in the register d (`gen_into`)
+unfoldable pub intoD : Value → ℕ → ℕ → State → Res (ℕ × State)
+intoD a d room s = bind (a (To d) room s) (moveTo d (s .next))
+
+-- a condition as a value (`gen_cond_value`): its register, its branch if true, the two loads
+unfoldable pub condV : Branch → Value
+condV br dst room s = bind (destD dst s) (λ d. bind (br true room (d .1)) (λ js. boolD (js .0) (d .0) (js .1)))
+
+-- the arms of a ternary: the test's jumps are pending
+unfoldable pub armsD : Value → Value → ℕ → ℕ → List ℕ × State → Res (ℕ × State)
+armsD a b d room js =
+    bind (intoD a d (room - length (js .0)) (js .1)) (λ x.
+    bind (turnD (js .0) d (x .1)) (λ y.
+    bind (intoD b d room (y .1)) (λ z.
+    patchD (here (x .1)) d (z .1))))
+
+unfoldable pub ternaryV : Branch → Value → Value → Value
+ternaryV test a b dst room s = bind (destD dst s) (λ d. bind (test false room (d .1)) (armsD a b (d .0) room))
+
+-- a branch on one value
+unfoldable pub oneB : How → Value → ℕ → State → Res (List ℕ × State)
+oneB how a room s = bind (a Any room s) (oneTo how room (s .next))
+
+abbrev pub testB : Value → Branch
+testB a sense room s = oneB (How.Bool sense) a room s
+
+unfoldable pub pairB : JumpCmp → Value → Value → ℕ → State → Res (List ℕ × State)
+pairB c a b room s = bind (a Any room s) (λ x. bind (b Any room (x .1)) (pairTo c (x .0) room (s .next)))
+
+-- a comparison takes a literal from the right, else from the left with the comparison mirrored
+unfoldable pub compareB : Cmp → Imm → Imm → Value → Value → Branch
+compareB c left (Imm16 n) a b sense room s = oneB (How.Imm (branchOf c sense) n) a room s
+compareB c (Imm16 n) NoImm a b sense room s = oneB (How.Imm (branchOf (mirror c) sense) n) b room s
+compareB c NoImm NoImm a b sense room s = pairB (branchOf c sense) a b room s
+
+-- whether a jump of the left side goes where the jumps of the whole go: `by` is the value that decides And or Or by itself
+abbrev pub same : Bool → Bool → Bool
+same true sense = sense
+same false sense = not sense
+
+-- And, which false decides, and Or, which true decides: the right side gets the later part of the jump list
+unfoldable pub junctionB : Bool → Branch → Branch → Branch
+junctionB by a b sense room s =
+    bind (a by room s) (λ x.
+    bind (b sense (room - length (x .0)) (x .1)) (junctionTo (same by sense) (x .0)))
+
+-- ---- the rules of a tree; `first` is the value rule of a binary operator's left operand
+
+pub record Gen : Type 0 where
+  pub value : Value
+  pub branch : Branch
+  pub first : Value
+
+-- a value, which is tested where a branch is asked for
+abbrev pub plain : Value → Value → Gen
+plain v first = record { value = v; branch = testB v; first = first }
+
+-- a condition, which is made a value where one is asked for
+abbrev pub condition : Branch → Value → Gen
+condition br first = record { value = condV br; branch = br; first = first }
+
+-- one unary operator: Minus multiplies by -1; Not turns the sense of a branch round
+abbrev pub unaryG : Unary → Gen → Gen
+unaryG minus a = plain (oneV minusOne (a .value)) (a .value)
+unaryG neg a =
+    record { value = oneV Tail.Not (a .value); branch = λ sense. a .branch (not sense); first = a .value }
+
+abbrev pub binaryG : Binary → Tree → Tree → Gen → Gen → Gen
+binaryG (arith o) x y a b = plain (binaryV (foldOf o x y) (threeOf o) (a .value) (a .first) (b .value)) (a .value)
+binaryG (cmp c) x y a b = condition (compareB c (asImm16 x) (asImm16 y) (a .value) (b .value)) (a .value)
+binaryG and x y a b = condition (junctionB false (a .branch) (b .branch)) (a .value)
+binaryG or x y a b = condition (junctionB true (a .branch) (b .branch)) (a .value)
+
+unfoldable pub gen : Tree → Gen
+gen (leaf l) = plain (leafV l) (leafV l)
+gen (unary o a) = unaryG o (gen a)
+gen (binary o a b) = binaryG o a b (gen a) (gen b)
+gen (ternary c a b) =
+    plain (ternaryV (gen c .branch) (gen a .value) (gen b .value)) (gen c .value)

@@ -1,3 +1,3 @@
--- What the contracts of compiling cite: what it answers and leaves. `Gen` passes on the definition of the rules.
+-- What the contracts of `codegen` cite.
 pub mod Gen
-pub mod Compile
+pub mod Rules

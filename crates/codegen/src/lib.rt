@@ -1,2 +1,2 @@
-// Compiling a node table: the check, the rules, and what is left in the lent buffers.
-pub mod compile;
+// The generator: value, branch and move rules (`rules`), by the definition in specs/Gen.
+pub mod rules;

@@ -1,6 +1,6 @@
 // Compiles node tables into lent buffers, and writes what compiling answers and leaves; tools/oracle/README.md has the layout.
 ghost use Prim.Native.Nat.{_≤_};
-use report::Compiled;
+use compile::buffers::Compiled;
 use table::Dest;
 
 // Room for the largest record.
@@ -30,18 +30,18 @@ fn within(n: u64, room: usize) -> usize
 fn write_answer(c: Compiled) {
     match c {
         Compiled::Done(words, slots, register, frame) => {
-            wire::write_word(0);
-            wire::write_word(words as u64);
-            wire::write_word(slots as u64);
-            wire::write_word(register as u64);
-            wire::write_word(frame as u64);
+            replay_io::write_word(0);
+            replay_io::write_word(words as u64);
+            replay_io::write_word(slots as u64);
+            replay_io::write_word(register as u64);
+            replay_io::write_word(frame as u64);
         }
         Compiled::Refused(n) => {
-            wire::write_word(n as u64);
-            wire::write_word(0);
-            wire::write_word(0);
-            wire::write_word(0);
-            wire::write_word(0);
+            replay_io::write_word(n as u64);
+            replay_io::write_word(0);
+            replay_io::write_word(0);
+            replay_io::write_word(0);
+            replay_io::write_word(0);
         }
     }
 }
@@ -55,18 +55,10 @@ fn answer(
     kinds: &mut [u8],
     payloads: &mut [u64],
 ) {
-    write_answer(codegen::compile::compile(
-        nodes,
-        params,
-        locals,
-        dest_of(dest),
-        code,
-        kinds,
-        payloads,
-    ));
-    wire::write_words(code);
-    wire::write_bytes(kinds);
-    wire::write_words(payloads);
+    write_answer(compile::compile(nodes, params, locals, dest_of(dest), code, kinds, payloads));
+    replay_io::write_words(code);
+    replay_io::write_bytes(kinds);
+    replay_io::write_words(payloads);
 }
 
 // The buffers are new in every record and hold no zero, so that what compiling zeroes shows.
@@ -89,19 +81,19 @@ fn serve(n: u64, nodes: &[u64], params: u64, locals: u64, dest: u64, words: u64,
 }
 
 fn replay() {
-    let n = wire::read_word();
-    let params = wire::read_word();
-    let locals = wire::read_word();
-    let dest = wire::read_word();
-    let words = wire::read_word();
-    let slots = wire::read_word();
+    let n = replay_io::read_word();
+    let params = replay_io::read_word();
+    let locals = replay_io::read_word();
+    let dest = replay_io::read_word();
+    let words = replay_io::read_word();
+    let slots = replay_io::read_word();
     let mut nodes = [0u64; TABLE_WORDS];
-    wire::read_words(&mut nodes, n);
+    replay_io::read_words(&mut nodes, n);
     serve(n, &nodes, params, locals, dest, words, slots);
 }
 
 fn main() {
-    let n = wire::read_word();
+    let n = replay_io::read_word();
     for _ in 0..n {
         replay();
     }

@@ -1,2 +1,4 @@
--- What the contracts of decoding cite.
+-- What the contracts of `decode` cite.
 pub mod Decode
+pub mod Field
+pub mod Patch

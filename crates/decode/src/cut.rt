@@ -1,6 +1,6 @@
 // The number above the opcode, cut upward into the fields of each form.
 use crate::Decoded;
-use bits::is_raw;
+use insns::bits::is_raw;
 use insns::op::ById;
 use insns::op::Call;
 use insns::op::One;

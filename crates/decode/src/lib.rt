@@ -1,4 +1,8 @@
-// From a word to its instruction.
+// From a word to its instruction: the form of an opcode (`form`), the fields (`cut`); aiming a branch word at a target (`patch`).
+mod cut;
+pub mod form;
+pub mod patch;
+
 use crate::cut::bit_and_mask_of;
 use crate::cut::by_id_of;
 use crate::cut::call_host_of;
@@ -17,7 +21,7 @@ use crate::cut::slot_of;
 use crate::cut::three_of;
 use crate::cut::two_of;
 use crate::cut::wide_of;
-use form::form;
+use crate::form::form;
 use insns::op::Disp;
 use insns::op::Form;
 use insns::op::Imm16;
@@ -25,8 +29,6 @@ use insns::op::Imm40;
 use insns::op::Op;
 ghost use mathlib.Core.Path.{_≡_};
 ghost use Rattle.decode.specs.Decode.{decodeOf};
-
-pub mod cut;
 
 // What a word decodes to; Bad is number 10.
 pub enum Decoded {

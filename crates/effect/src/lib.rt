@@ -1,5 +1,4 @@
 // What one instruction asks for. Nothing is written here: an effect is carried out by the step, in the crate `machine`.
-use answer::Answer;
 use insns::op::Arith;
 use insns::op::Bare;
 use insns::op::Cmp;
@@ -13,9 +12,10 @@ use insns::op::Slot;
 use insns::op::Three;
 use insns::op::Two;
 use ops::binary;
-use value::value::Lent;
-use value::value::Value;
-use value::value::from_pair;
+use value::Lent;
+use value::Value;
+use value::answer::Answer;
+use value::from_pair;
 ghost use mathlib.Core.Path.{_≡_};
 ghost use lib.IntN.{pos};
 ghost use Rattle.ops.specs.Ops.{resultOf, is};
@@ -94,14 +94,14 @@ fn literal16(z: Imm16) -> Answer
 fn mask(lo: u8, len: u8) -> Answer
     ensures { λ r. ⌜ resultOf r ≡ Fx.mask lo len ⌝ }
 {
-    literal(sign::signed(mask::mask(lo as u64, len as u64)))
+    literal(int64::sign::signed(int64::mask::mask(lo as u64, len as u64)))
 }
 
 fn raw(z: Imm40) -> Answer
     ensures { λ r. ⌜ resultOf r ≡ Fx.rawOf (z .raw) ⌝ }
 {
     let n = z.raw;
-    let b = sign::pattern(n);
+    let b = int64::sign::pattern(n);
     if b == 1 {
         return Answer::Is(Value::Nil);
     }
@@ -117,7 +117,7 @@ fn raw(z: Imm40) -> Answer
 fn inverted(r: Answer) -> Answer
     ensures { λ a. ⌜ resultOf a ≡ Fx.inverted (resultOf r) ⌝ }
 {
-    negate::negated(r)
+    ops::not::negated(r)
 }
 
 fn sense(k: Sense, r: Answer) -> Answer

@@ -32,11 +32,11 @@ use Rattle.emit.specs.declared.state.Dst.{Dst}
 use Rattle.emit.specs.declared.state.Ans.{Ans}
 use Rattle.emit.specs.declared.state.Ans.the-variants.{Got, No}
 use Rattle.emit.specs.State.{State, destD, slotD, storeD}
-use Rattle.literal.specs.Literal.{fitsImm40}
+use Rattle.fold.specs.Literal.{fitsImm40}
 use Rattle.emit.specs.Steps.{putD, loadOp, rawNil, rawTrue, rawFalse, constTo, constD, leafD}
 use Rattle.emit.specs.Read.{Bufs, bufs, constAt, stOf, Fit, Says, Steps, Consts, LeafReady}
 use Rattle.emit.proofs.Laws.{go, stop, kept, says-by}
-use Rattle.literal.proofs.Literals.{held}
+use Rattle.fold.proofs.literal.Literals.{held}
 
 -- ---- a constant's slot
 

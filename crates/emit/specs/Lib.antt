@@ -1,4 +1,7 @@
--- What the contracts of the generator's leaves cite: its state, the folds, the steps of its rules, and how the code's answers are read.
+-- What the contracts of `emit` cite.
 pub mod State
 pub mod Steps
 pub mod Read
+pub mod Build
+pub mod Jump
+pub mod Lists

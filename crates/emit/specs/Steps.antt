@@ -14,7 +14,7 @@ use Rattle.insns.specs.declared.op.Three.{Three}
 use Rattle.emit.specs.declared.state.Dst.{Dst}
 use Rattle.fold.specs.declared.Tail.{Tail}
 use Rattle.emit.specs.State.{Res, done, bind, State, release, destD, slotD, emitD}
-use Rattle.literal.specs.Literal.{fitsImm40}
+use Rattle.fold.specs.Literal.{fitsImm40}
 use Rattle.fold.specs.Fold.{tailOp}
 
 -- ---- an instruction that makes a value

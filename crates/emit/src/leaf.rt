@@ -8,10 +8,10 @@ use crate::word::RAW_NIL;
 use crate::word::RAW_TRUE;
 use crate::word::emit;
 use crate::word::put_load;
+use fold::literal::IMM40;
+use fold::literal::within;
 use insns::Insn;
 use insns::op::Imm40;
-use literal::IMM40;
-use literal::within;
 ghost use mathlib.Core.Path.{_≡_};
 ghost use Prim.Native.Nat.{ℕ};
 ghost use Rattle.table.specs.Table.{kindAt, payloadAt};
@@ -76,7 +76,7 @@ pub fn gen_value(
         table::TRUE => put_load(code, Imm40 { raw: RAW_TRUE }, dst, st),
         table::FALSE => put_load(code, Imm40 { raw: RAW_FALSE }, dst, st),
         table::INT => {
-            let z = sign::signed(p);
+            let z = int64::sign::signed(p);
             if within(z, IMM40) {
                 return put_load(code, Imm40 { raw: 4 * z }, dst, st);
             }

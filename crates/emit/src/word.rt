@@ -55,7 +55,7 @@ pub fn emit(code: &mut [u64], made: Made, d: u16, st: St) -> Ans
 pub fn emit_load(code: &mut [u64], raw: Imm40, d: u16, st: St) -> Ans
     ensures { λ r. ⌜ Steps (now (code .entry)) (now (code .exit)) st r (emitD (Op.LoadImm40 d raw) d) ⌝ }
 {
-    emit(code, made::load_imm40(d, raw), d, st)
+    emit(code, crate::build::load_imm40(d, raw), d, st)
 }
 
 // An immediate, in the register that is asked for.
@@ -74,7 +74,7 @@ fn tail_word(tail: Tail, d: u16, a: u16) -> Made
 {
     match tail {
         Tail::Not => Insn::not(d, a),
-        Tail::Imm(op, n) => made::arith(op, d, a, n),
+        Tail::Imm(op, n) => crate::build::arith(op, d, a, n),
         Tail::Shift(op, k) => shift_word(shift_op(op), d, a, k),
         Tail::Mask(lo, len) => Insn::bit_and_mask(d, a, lo, len),
         Tail::ShiftMask(k, lo, len) => Insn::rshift_mask(d, a, k, lo, len),

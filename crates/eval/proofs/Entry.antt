@@ -20,7 +20,7 @@ use Rattle.value.specs.Value.{allWell, datums}
 use Rattle.ops.specs.Ops.{Result, fault as faulted}
 use Rattle.eval.specs.Eval.{evalOf}
 use Rattle.eval.specs.Evaluate.{localsFault, unless, evaluateOf}
-use Rattle.apply.specs.Steps.{Lends}
+use Rattle.eval.specs.Steps.{Lends}
 
 refused : (n : ℕ) (r : Result) → (n ≡ 0 → ⊥) → faulted n ≡ unless n r
 unfolding unless

@@ -17,16 +17,16 @@ use Rattle.value.specs.Value.{Datum, bool, datums}
 use Rattle.ops.specs.Ops as Ops
 use Rattle.ops.specs.Ops.{Result, is, fault}
 use Rattle.eval.specs.Eval.{leafOf, unaryOf, arithOf, cmpOf, on, both, whether, test, binaryOf, evalOf}
-use Rattle.descend.specs.Descend.{Ruled, truthOf, ruleOf, firstOf, afterOf, chosenOf, nextOf}
-use Rattle.apply.specs.Steps.{leaves, aloneOf, joinedOf}
-use Rattle.descend.specs.declared.Next.{Next}
-use Rattle.descend.specs.declared.Next.the-variants.{Stop, Go}
-use Rattle.descend.specs.declared.Rule.{Rule}
-use Rattle.descend.specs.declared.Rule.the-variants as R
-use Rattle.descend.specs.declared.Truth.{Truth}
-use Rattle.descend.specs.declared.Truth.the-variants.{Yes, No, Wrong}
-use Rattle.descend.proofs.Laws.{rule-unary, rule-operator, rule-ternary}
-use Rattle.apply.proofs.Laws.{chooses, whether-by}
+use Rattle.eval.specs.Next.{Ruled, truthOf, ruleOf, firstOf, afterOf, chosenOf, nextOf}
+use Rattle.eval.specs.Steps.{leaves, aloneOf, joinedOf}
+use Rattle.eval.specs.declared.next.Next.{Next}
+use Rattle.eval.specs.declared.next.Next.the-variants.{Stop, Go}
+use Rattle.eval.specs.declared.next.Rule.{Rule}
+use Rattle.eval.specs.declared.next.Rule.the-variants as R
+use Rattle.eval.specs.declared.next.Truth.{Truth}
+use Rattle.eval.specs.declared.next.Truth.the-variants.{Yes, No, Wrong}
+use Rattle.eval.proofs.next.Laws.{rule-unary, rule-operator, rule-ternary}
+use Rattle.eval.proofs.apply.Laws.{chooses, whether-by}
 
 -- ---- leaves: the entry of its kind is the leaf's answer
 

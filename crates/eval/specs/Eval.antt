@@ -8,7 +8,7 @@ use Rattle.table.specs.Tree as T
 use Rattle.table.specs.Tree.{Leaf, Unary, Arith, Cmp, Binary, Tree}
 use Rattle.value.specs.Value.{Datum, nil, bool, int, float}
 use Rattle.ops.specs.Ops.{Result, is, minusOf, notOf, andOf, orOf, xorOf, shlOf, shrOf, addOf, subOf, mulOf, divOf, remOf, eqOf, neOf, ltOf, leOf}
-unfoldable pub use Rattle.apply.specs.Apply.{on, both, whether, test}
+unfoldable pub use Rattle.eval.specs.Apply.{on, both, whether, test}
 
 -- ---- a literal is its value, a Ref the value of its local
 

@@ -1,3 +1,6 @@
--- What the contracts of the evaluator cite: the meaning of a tree, and the whole evaluation.
+-- What the contracts of `eval` cite.
 pub mod Eval
 pub mod Evaluate
+pub mod Next
+pub mod Apply
+pub mod Steps

@@ -1,25 +1,28 @@
-// The evaluator of a node table: recursion over the table, no deeper than its depth limit.
+// The evaluator of a node table: recursion over the table, no deeper than its depth limit. Which child is next (`next`), a node's answer (`apply`).
+mod apply;
+mod next;
+
 ghost use mathlib.Core.Path.{_≡_};
 ghost use Prim.Native.Nat.{min};
 ghost use lib.ListN.{length};
 ghost use Rattle.table.specs.Table.{Node};
 ghost use Rattle.table.specs.Tree.{tree};
 ghost use Rattle.value.specs.Value.{datums};
-ghost use Rattle.answer.specs.Answer.{resultOf};
-ghost use Rattle.apply.specs.Steps.{Lends};
+ghost use Rattle.value.specs.Answer.{resultOf};
+ghost use Rattle.eval.specs.Steps.{Lends};
 ghost use Rattle.eval.specs.Eval.{evalOf};
 ghost use Rattle.eval.specs.Evaluate.{evaluateOf};
-use answer::Answer;
-use apply::alone;
-use apply::joined;
-use apply::leaf;
-use descend::Next;
-use descend::first;
-use descend::next_of;
-use descend::rule_of;
+use crate::apply::alone;
+use crate::apply::joined;
+use crate::apply::leaf;
+use crate::next::Next;
+use crate::next::first;
+use crate::next::next_of;
+use crate::next::rule_of;
 use table::Dest;
 use table::kind_at;
 use table::payload_at;
+use value::answer::Answer;
 
 // The answer of the tree at node i on the locals lent. Two calls of itself are all that it has, so that a level takes little of the stack.
 fn eval_node(nodes: &[u64], kinds: &[u8], payloads: &[u64], i: usize) -> Answer
@@ -52,7 +55,7 @@ fn shorter(a: usize, b: usize) -> usize
 pub fn evaluate(nodes: &[u64], params: u64, locals: u64, kinds: &[u8], payloads: &[u64]) -> Answer
     ensures { λ r. ⌜ resultOf r ≡ evaluateOf (now (nodes .entry)) params locals (now (kinds .entry)) (now (payloads .entry)) ⌝ }
 {
-    let n = checks::check(nodes, params, locals, Dest::None);
+    let n = table::check::check(nodes, params, locals, Dest::None);
     if n != faults::NONE {
         return Answer::Fault(n);
     }
@@ -62,7 +65,7 @@ pub fn evaluate(nodes: &[u64], params: u64, locals: u64, kinds: &[u8], payloads:
     }
     let ks = &kinds[..base];
     let ps = &payloads[..base];
-    if pairs::all_well(ks, ps) {
+    if value::pairs::all_well(ks, ps) {
         return eval_node(nodes, ks, ps, nodes.len() / 4 - 1);
     }
     Answer::Fault(faults::ILL_FORMED)

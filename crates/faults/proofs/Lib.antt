@@ -1,1 +1,2 @@
+-- The laws that the proofs of `faults` cite.
 pub mod Faults

@@ -23,19 +23,19 @@ use Rattle.fold.specs.declared.Tail.{Tail}
 use Rattle.fold.specs.declared.Tail.the-variants as Tail
 use Rattle.fold.specs.declared.Fold.{Fold}
 use Rattle.fold.specs.declared.Fold.the-variants.{Into, General}
-use Rattle.literal.specs.declared.Lit.{Lit}
-use Rattle.literal.specs.declared.Lit.the-variants.{Is, Not}
-use Rattle.literal.specs.declared.Imm.{Imm}
-use Rattle.literal.specs.declared.Imm.the-variants.{Imm16, NoImm}
-use Rattle.literal.specs.declared.Amount.{Amount}
-use Rattle.literal.specs.declared.Amount.the-variants.{By, NoShift}
-use Rattle.literal.specs.declared.Run.{Run}
-use Rattle.literal.specs.declared.Run.the-variants.{Ones, Other}
-use Rattle.literal.specs.Literal.{bitRun, constOf, immOf, amountOf, amountLit}
+use Rattle.fold.specs.declared.literal.Lit.{Lit}
+use Rattle.fold.specs.declared.literal.Lit.the-variants.{Is, Not}
+use Rattle.fold.specs.declared.literal.Imm.{Imm}
+use Rattle.fold.specs.declared.literal.Imm.the-variants.{Imm16, NoImm}
+use Rattle.fold.specs.declared.literal.Amount.{Amount}
+use Rattle.fold.specs.declared.literal.Amount.the-variants.{By, NoShift}
+use Rattle.fold.specs.declared.literal.Run.{Run}
+use Rattle.fold.specs.declared.literal.Run.the-variants.{Ones, Other}
+use Rattle.fold.specs.Literal.{bitRun, constOf, immOf, amountOf, amountLit}
 use Rattle.fold.specs.Fold.{shiftBy, shiftedBy, maskFold, shiftFold, immFold, foldBy, foldLit, minusOne, opFold, takesShift, leftOf, operandOf}
 use Rattle.fold.specs.Nodes.{Operator, Operand}
-use Rattle.literal.proofs.Literals.{held}
-use Rattle.kinds.proofs.KindLaws.{arith-known}
+use Rattle.fold.proofs.literal.Literals.{held}
+use Rattle.fold.proofs.opcodes.KindLaws.{arith-known}
 
 never : {X : Type 0} → _≡_ {A = ℕ} 0 1 → X
 never e = absurd (omega numbers)

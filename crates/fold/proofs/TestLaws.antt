@@ -12,13 +12,13 @@ use Rattle.table.proofs.Arities.{binary-code, arith-codes, cmp-codes}
 use Rattle.table.proofs.Trees.{View, is-leaf, is-unary, is-binary, is-ternary, view, BinaryAt, binary-in}
 use Rattle.insns.specs.declared.op.Cmp.{Cmp as JumpCmp}
 use Rattle.insns.specs.declared.op.Imm16.{Imm16 as Imm16s}
-use Rattle.literal.specs.declared.Imm.{Imm}
-use Rattle.literal.specs.declared.Imm.the-variants.{Imm16, NoImm}
+use Rattle.fold.specs.declared.literal.Imm.{Imm}
+use Rattle.fold.specs.declared.literal.Imm.the-variants.{Imm16, NoImm}
 use Rattle.fold.specs.declared.How.{How}
 use Rattle.fold.specs.declared.How.the-variants as How
 use Rattle.fold.specs.declared.Test.the-variants as T
-use Rattle.literal.specs.Literal.{asImm16}
-use Rattle.kinds.specs.Kinds.{mirror, branchOf}
+use Rattle.fold.specs.Literal.{asImm16}
+use Rattle.fold.specs.Opcodes.{mirror, branchOf}
 use Rattle.fold.specs.Fold.{one, comparePick, pickOf}
 use Rattle.fold.specs.Nodes.{Comparison, TestIs}
 

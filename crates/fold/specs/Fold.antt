@@ -13,18 +13,18 @@ use Rattle.fold.specs.declared.Tail.{Tail}
 use Rattle.fold.specs.declared.Tail.the-variants as Tail
 use Rattle.fold.specs.declared.Fold.{Fold}
 use Rattle.fold.specs.declared.Fold.the-variants.{Into, General}
-use Rattle.literal.specs.declared.Lit.{Lit}
-use Rattle.literal.specs.declared.Lit.the-variants.{Is, Not}
-use Rattle.literal.specs.declared.Imm.{Imm}
-use Rattle.literal.specs.declared.Imm.the-variants.{Imm16, NoImm}
-use Rattle.literal.specs.declared.Amount.{Amount}
-use Rattle.literal.specs.declared.Amount.the-variants.{By, NoShift}
+use Rattle.fold.specs.declared.literal.Lit.{Lit}
+use Rattle.fold.specs.declared.literal.Lit.the-variants.{Is, Not}
+use Rattle.fold.specs.declared.literal.Imm.{Imm}
+use Rattle.fold.specs.declared.literal.Imm.the-variants.{Imm16, NoImm}
+use Rattle.fold.specs.declared.literal.Amount.{Amount}
+use Rattle.fold.specs.declared.literal.Amount.the-variants.{By, NoShift}
 use Rattle.fold.specs.declared.How.{How}
 use Rattle.fold.specs.declared.How.the-variants as How
-use Rattle.literal.specs.declared.Run.{Run}
-use Rattle.literal.specs.declared.Run.the-variants.{Ones, Other}
-use Rattle.literal.specs.Literal.{bitRun, fixnum, constOf, immOf, asImm16, amountOf, amountLit}
-use Rattle.kinds.specs.Kinds.{mirror, branchOf}
+use Rattle.fold.specs.declared.literal.Run.{Run}
+use Rattle.fold.specs.declared.literal.Run.the-variants.{Ones, Other}
+use Rattle.fold.specs.Literal.{bitRun, fixnum, constOf, immOf, asImm16, amountOf, amountLit}
+use Rattle.fold.specs.Opcodes.{mirror, branchOf}
 
 -- the amount of a right shift by a literal
 unfoldable pub shiftBy : Binary → Tree → Amount

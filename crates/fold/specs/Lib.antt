@@ -1,3 +1,5 @@
--- What the contracts cite.
+-- What the contracts of `fold` cite.
 pub mod Fold
 pub mod Nodes
+pub mod Literal
+pub mod Opcodes

@@ -6,7 +6,7 @@ use Prim.Native.Nat.{ℕ, _<_, _≤_}
 use mathlib.Core.List.{List}
 use Rattle.table.specs.Table.{kindAt, Node, Child}
 use Rattle.table.specs.Tree.{tree}
-use Rattle.kinds.specs.Kinds.{isComparison}
+use Rattle.fold.specs.Opcodes.{isComparison}
 use Rattle.fold.specs.declared.Tail.{Tail}
 use Rattle.fold.specs.declared.Test.{Test}
 use Rattle.fold.specs.declared.Test.the-variants as T

@@ -1,12 +1,15 @@
-// What an instruction takes in: a literal, a mask of one run of ones, a shift. An attempt answers whether it did.
+// What an instruction takes in: a literal, a mask of one run of ones, a shift. An attempt answers whether it did. Literals: `literal`; the instruction of an operator: `opcodes`.
+pub mod literal;
+pub mod opcodes;
+
+use crate::literal::Amount;
+use crate::literal::Imm;
+use crate::literal::Lit;
+use crate::literal::Run;
 use insns::op::Arith;
 use insns::op::Cmp;
 use insns::op::Imm16;
 use insns::op::Shift;
-use literal::Amount;
-use literal::Imm;
-use literal::Lit;
-use literal::Run;
 ghost use mathlib.Core.Path.{_≡_};
 ghost use Rattle.table.specs.Table.{kindAt, Inner};
 ghost use Rattle.table.specs.Tree.{Arith as TreeArith, arith, binaryKind, kindOf, tree};
@@ -48,11 +51,11 @@ fn shifted_by(nodes: &[u64], i: usize) -> Amount
     if table::kind_at(nodes, i) != table::RSHIFT {
         return Amount::NoShift;
     }
-    let l = literal::const_value(nodes, table::child_1(nodes, i));
+    let l = crate::literal::const_value(nodes, table::child_1(nodes, i));
     let Lit::Is(z) = l else {
         return Amount::NoShift;
     };
-    literal::amount_of(z)
+    crate::literal::amount_of(z)
 }
 
 fn mask_fold(shift: Amount, run: Run) -> Fold
@@ -91,12 +94,12 @@ fn literal_fold(nodes: &[u64], a: usize, k: u64, z: i64) -> Fold
     ensures { λ r. ⌜ ((o : TreeArith) → kindOf k ≡ binaryKind (arith o) → r ≡ foldBy o (shiftedBy (tree (now (nodes .entry)) a)) z) ⌝ }
 {
     match k {
-        table::BIT_AND => mask_fold(shifted_by(nodes, a), literal::bit_run(z)),
-        table::LSHIFT => shift_fold(Shift::Left, literal::amount_of(z)),
-        table::RSHIFT => shift_fold(Shift::Right, literal::amount_of(z)),
-        table::ADD => imm_fold(Arith::Plus, literal::imm_of(z)),
-        table::SUB => imm_fold(Arith::Minus, literal::imm_of(z)),
-        table::MUL => imm_fold(Arith::Times, literal::imm_of(z)),
+        table::BIT_AND => mask_fold(shifted_by(nodes, a), crate::literal::bit_run(z)),
+        table::LSHIFT => shift_fold(Shift::Left, crate::literal::amount_of(z)),
+        table::RSHIFT => shift_fold(Shift::Right, crate::literal::amount_of(z)),
+        table::ADD => imm_fold(Arith::Plus, crate::literal::imm_of(z)),
+        table::SUB => imm_fold(Arith::Minus, crate::literal::imm_of(z)),
+        table::MUL => imm_fold(Arith::Times, crate::literal::imm_of(z)),
         _ => Fold::General,
     }
 }
@@ -113,7 +116,7 @@ pub fn fold_of(nodes: &[u64], i: usize) -> Fold
     if k == table::NOT {
         return Fold::Into(Tail::Not);
     }
-    let l = literal::const_value(nodes, table::child_1(nodes, i));
+    let l = crate::literal::const_value(nodes, table::child_1(nodes, i));
     let Lit::Is(z) = l else {
         return Fold::General;
     };
@@ -156,15 +159,15 @@ fn compare_of(nodes: &[u64], i: usize, k: u64, sense: bool) -> Test
 {
     let b = table::child_1(nodes, i);
     let a = table::child_2(nodes, i);
-    let right = literal::as_imm16(nodes, b);
+    let right = crate::literal::as_imm16(nodes, b);
     let Imm::Imm16(n) = right else {
-        let left = literal::as_imm16(nodes, a);
+        let left = crate::literal::as_imm16(nodes, a);
         let Imm::Imm16(m) = left else {
             return Test::Two;
         };
-        return Test::One(b, How::Imm(kinds::mirrored_branch(k, sense), m));
+        return Test::One(b, How::Imm(crate::opcodes::mirrored_branch(k, sense), m));
     };
-    Test::One(a, How::Imm(kinds::cmp_branch(k, sense), n))
+    Test::One(a, How::Imm(crate::opcodes::cmp_branch(k, sense), n))
 }
 
 // What a branch on node i takes in: a literal of a comparison; any other node is tested whole.

@@ -1,3 +1,4 @@
--- What the contracts of the instruction words cite: fields and how they are packed; the 77 instructions.
+-- What the contracts of `insns` cite.
 pub mod Fields
 pub mod Insns
+pub mod Bits

@@ -1,6 +1,7 @@
 // From an instruction to its word: the fields of each form, and the opcode of each instruction.
 use crate::Insn;
 use crate::Made;
+use crate::bits::signed_bits;
 use crate::fields::make0;
 use crate::fields::make1;
 use crate::fields::make2;
@@ -21,7 +22,6 @@ use crate::op::Slot;
 use crate::op::Three;
 use crate::op::Two;
 use crate::op::Wide;
-use bits::signed_bits;
 ghost use mathlib.Core.Path.{_≡_};
 ghost use mathlib.Core.List.{[], _∷_};
 ghost use Rattle.insns.specs.Fields.{u, s, raw, make};

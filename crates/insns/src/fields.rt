@@ -2,9 +2,9 @@
 // A signed operand that its field does not hold has, for its bits, a number past the field, so that one test serves every kind of field.
 use crate::Insn;
 use crate::Made;
+use crate::bits::is_raw;
+use crate::bits::signed_bits;
 use crate::op::Imm40;
-use bits::is_raw;
-use bits::signed_bits;
 ghost use mathlib.Core.Path.{_≡_};
 ghost use mathlib.Core.List.{[], _∷_};
 ghost use Prim.Native.Nat.{_*_, _≤_, _^_};

@@ -12,9 +12,9 @@ use mir.Val.{SFits, Fits, toZ, ofZ}
 use mir.ValLaws.{toZ-ofZ, ofZ-toZ, toZ-fits}
 use borrow.Author.Tests.{lt-ltb, le-ltb, eq-eqb, ne-eqb, ltb-true}
 use Rattle.faults.specs.Numbers.{modByZero, badShift}
-use Rattle.sign.specs.Sign.{bitsOf}
-use Rattle.sign.proofs.Laws.{one-shifted}
-use Rattle.exact.proofs.Laws.{by-positive, sign-number, sign-fits}
+use Rattle.int64.specs.Sign.{bitsOf}
+use Rattle.int64.proofs.sign.Laws.{one-shifted}
+use Rattle.int64.proofs.exact.Laws.{by-positive, sign-number, sign-fits}
 use Rattle.int64.specs.Int as Int
 use Rattle.int64.specs.Int.{Outcome, number, fault, inRange, checked, exact, held, negative, withSign, bitwise, shifted, floor}
 

@@ -10,7 +10,7 @@ use mir.Syntax.{w64}
 use mir.Facts.{sfits-toZ}
 use borrow.Author.Tests.{lt-ltb, le-ltb, ltb-true, ltb-false}
 use Rattle.faults.specs.Numbers.{outOfRange}
-use Rattle.sign.proofs.Laws.{never}
+use Rattle.int64.proofs.sign.Laws.{never}
 use Rattle.value.specs.Value.{Datum, nil, Read, well, ill, ofPair, isWell, allWell, datumOf, datums}
 use Rattle.ops.specs.Ops.{Result, is, fault}
 use Rattle.value.proofs.PairLaws.{well-at, datums-length, datum-at}

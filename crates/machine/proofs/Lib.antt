@@ -1,4 +1,4 @@
--- The laws of `machine`: those that its proofs cite, and those of its definitions that `runner` and `agree` cite.
+-- The laws of `machine`: those that its proofs cite, and those of its definitions that `run` and `agree` cite.
 pub mod StepLaws
 pub mod RunLaws
 pub mod RunFacts

@@ -21,11 +21,11 @@ use Rattle.decode.specs.declared.Decoded.{Decoded}
 use Rattle.insns.specs.declared.op.Disp.{Disp}
 use Rattle.insns.specs.declared.op.Op.{Op}
 use Rattle.value.specs.Value.{nil, bool, int, float, meaning, kindOf, payloadOf}
-use Rattle.value.specs.declared.value.Value.the-variants as C
+use Rattle.value.specs.declared.Value.the-variants as C
 use Rattle.ops.specs.Ops.{Result, is, fault, resultOf}
-use Rattle.value.specs.declared.value.Value.{Value}
-use Rattle.answer.specs.declared.Answer.{Answer}
-use Rattle.answer.specs.declared.Answer.the-variants as A
+use Rattle.value.specs.declared.Value.{Value}
+use Rattle.value.specs.declared.answer.Answer.{Answer}
+use Rattle.value.specs.declared.answer.Answer.the-variants as A
 use Rattle.effect.specs.Effect.{Effect, halt, asked, size, held, effectOf}
 use Rattle.effect.specs.declared.Effect as E
 use Rattle.effect.specs.declared.Effect.the-variants as Fx

@@ -14,10 +14,10 @@ use mir.Facts.{sfits-toZ}
 use borrow.Author.Tests.{ltb-true}
 use Rattle.faults.specs.Numbers.{badShift, outOfRange, notRun}
 use Rattle.int64.specs.Int as I
-use Rattle.mask.specs.Mask.{maskOf}
+use Rattle.int64.specs.Mask.{maskOf}
 use Rattle.int64.specs.declared.Op as IntOp
 use Rattle.int64.specs.declared.Op.the-variants as IO
-use Rattle.exact.specs.declared.Arith.the-variants as B
+use Rattle.int64.specs.declared.exact.Arith.the-variants as B
 use Rattle.int64.proofs.Answers.{floor-is}
 use Rattle.float.specs.declared.Op as FloatOp
 use Rattle.float.specs.declared.Op.the-variants as FO

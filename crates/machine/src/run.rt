@@ -1,4 +1,4 @@
-// What a run reports. The run itself stands in the crate `runner`; its definition is this crate's `specs/Run.antt`.
+// What a run reports. The run itself stands in the crate `run`; its definition is this crate's `specs/Run.antt`.
 
 // The number (0 for done), the steps taken, and the position: the stopping word's, or the length when done.
 pub struct Ran {

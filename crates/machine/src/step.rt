@@ -1,15 +1,15 @@
 // One step: the word at a position is decoded, and its effect carried out.
-use answer::Answer;
-use bits::magnitude;
 use decode::Decoded;
 use decode::decode;
 use effect::Effect;
 use effect::effect_of;
 use effect::room;
+use insns::bits::magnitude;
 use insns::op::Disp;
-use value::value::Value;
-use value::value::kind_of;
-use value::value::payload_of;
+use value::Value;
+use value::answer::Answer;
+use value::kind_of;
+use value::payload_of;
 ghost use mathlib.Core.Path.{_≡_};
 ghost use Prim.Native.Nat.{_<_};
 ghost use lib.ListN.{length};

@@ -32,7 +32,7 @@ fn ran(
 ) -> Ran {
     if entry == 0 {
         if end == words.len() as u64 {
-            return runner::run(
+            return run::run(
                 words,
                 start as usize,
                 kinds,
@@ -43,7 +43,7 @@ fn ran(
             );
         }
     }
-    runner::run_part(
+    run::run_part(
         words,
         entry as usize,
         end as usize,
@@ -77,11 +77,11 @@ fn answer(
         slot_kinds,
         slot_payloads,
     );
-    wire::write_word(r.number as u64);
-    wire::write_word(r.steps);
-    wire::write_word(r.position as u64);
-    wire::write_bytes(kinds);
-    wire::write_words(payloads);
+    replay_io::write_word(r.number as u64);
+    replay_io::write_word(r.steps);
+    replay_io::write_word(r.position as u64);
+    replay_io::write_bytes(kinds);
+    replay_io::write_words(payloads);
 }
 
 // The first k kinds and p payloads are lent.
@@ -152,25 +152,25 @@ fn serve(
 }
 
 fn replay() {
-    let nw = wire::read_word();
-    let entry = wire::read_word();
-    let end = wire::read_word();
-    let start = wire::read_word();
-    let budget = wire::read_word();
-    let nk = wire::read_word();
-    let np = wire::read_word();
-    let nsk = wire::read_word();
-    let nsp = wire::read_word();
+    let nw = replay_io::read_word();
+    let entry = replay_io::read_word();
+    let end = replay_io::read_word();
+    let start = replay_io::read_word();
+    let budget = replay_io::read_word();
+    let nk = replay_io::read_word();
+    let np = replay_io::read_word();
+    let nsk = replay_io::read_word();
+    let nsp = replay_io::read_word();
     let mut words = [0u64; WORDS];
     let mut kinds = [0u8; PAIRS];
     let mut payloads = [0u64; PAIRS];
     let mut slot_kinds = [0u8; PAIRS];
     let mut slot_payloads = [0u64; PAIRS];
-    wire::read_words(&mut words, nw);
-    wire::read_bytes(&mut kinds, nk);
-    wire::read_words(&mut payloads, np);
-    wire::read_bytes(&mut slot_kinds, nsk);
-    wire::read_words(&mut slot_payloads, nsp);
+    replay_io::read_words(&mut words, nw);
+    replay_io::read_bytes(&mut kinds, nk);
+    replay_io::read_words(&mut payloads, np);
+    replay_io::read_bytes(&mut slot_kinds, nsk);
+    replay_io::read_words(&mut slot_payloads, nsp);
     serve(
         nw,
         &words,
@@ -190,7 +190,7 @@ fn replay() {
 }
 
 fn main() {
-    let n = wire::read_word();
+    let n = replay_io::read_word();
     for _ in 0..n {
         replay();
     }

@@ -16,9 +16,9 @@ use Rattle.faults.specs.Numbers.{overflow, modByZero, badShift}
 use Rattle.int64.specs.Int as I
 use Rattle.int64.specs.declared.Op as IntOp
 use Rattle.int64.specs.declared.Op.the-variants as IO
-use Rattle.exact.specs.declared.Arith.the-variants as B
-use Rattle.order.specs.declared.Cmp.{Cmp}
-use Rattle.order.specs.declared.Cmp.the-variants.{Eq, Ne, Lt, Le, Gt, Ge}
+use Rattle.int64.specs.declared.exact.Arith.the-variants as B
+use Rattle.int64.specs.declared.order.Cmp.{Cmp}
+use Rattle.int64.specs.declared.order.Cmp.the-variants.{Eq, Ne, Lt, Le, Gt, Ge}
 use Rattle.float.specs.Float as F
 use Rattle.float.specs.Float.{Real, nan, inf, fin, infinity, quiet, signed, rounded, unlike, sum, negated}
 use Rattle.float.specs.declared.Op as FloatOp

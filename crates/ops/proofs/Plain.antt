@@ -10,13 +10,13 @@ use mir.ValLaws.{toZ-ofZ}
 use borrow.Author.Tests.{ltb-true}
 use Rattle.faults.specs.Numbers.{overflow}
 use Rattle.int64.specs.Int as I
-use Rattle.order.specs.Order.{orderZ, holds}
+use Rattle.int64.specs.Order.{orderZ, holds}
 use Rattle.int64.specs.declared.Op as IntOp
-use Rattle.exact.specs.declared.Arith.{Arith}
-use Rattle.exact.specs.declared.Arith.the-variants as B
-use Rattle.order.specs.declared.Cmp.{Cmp}
+use Rattle.int64.specs.declared.exact.Arith.{Arith}
+use Rattle.int64.specs.declared.exact.Arith.the-variants as B
+use Rattle.int64.specs.declared.order.Cmp.{Cmp}
 use Rattle.float.specs.Float as F
-use Rattle.float_order.specs.FloatOrder.{order}
+use Rattle.float.specs.Order.{order}
 use Rattle.float.specs.Float.{read}
 use Rattle.float.specs.declared.Op as FloatOp
 use Rattle.float.specs.declared.Op.the-variants as FO

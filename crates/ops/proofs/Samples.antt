@@ -3,11 +3,11 @@ use mathlib.Core.Path.{_≡_, refl}
 use mathlib.Core.Bool.{true, false}
 use lib.IntN.{pos, negsuc}
 use Rattle.float.specs.Float as F
-use Rattle.float_order.specs.FloatOrder.{order}
+use Rattle.float.specs.Order.{order}
 use Rattle.value.specs.Value.{nil, bool, int, float}
 use Rattle.faults.specs.Numbers.{wrongKind, overflow, notExact, badShift}
 use Rattle.int64.specs.Int as I
-use Rattle.order.specs.Order.{orderZ, holds}
+use Rattle.int64.specs.Order.{orderZ, holds}
 use Rattle.ops.specs.Ops.{is, fault, isNumber, ofNumbers, fromInt, converted, floats, asFloats, arithOf, standing, judged, mixed, compareNumbers, compareOthers, compareOf, same, addOf, minusOf, divOf, wholeOf, remOf, shlOf, shrOf, ltOf, leOf, eqOf}
 
 -- case 10: Minus of -2^63

@@ -1,2 +1,5 @@
 -- What the contracts of `ops` cite.
 pub mod Ops
+pub mod Arith
+pub mod Compare
+pub mod Not

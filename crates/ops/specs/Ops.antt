@@ -1,19 +1,19 @@
--- Every operator on values by its name, and by its node kind. What each means stands in `arith`, `compare` and `negate`, and is passed on here.
+-- Every operator on values by its name, and by its node kind. What each means stands in `arith`, `compare` and `not`, and is passed on here.
 use Prim.Native.Nat.{ℕ}
 use mathlib.Core.Bool.{cond}
 use lib.Dec.{eqb}
 use Rattle.faults.specs.Numbers.{wrongKind}
 use Rattle.value.specs.Value.{Datum}
 use Rattle.int64.specs.declared.Op.the-variants as IO
-use Rattle.order.specs.declared.Cmp.the-variants.{Eq, Ne, Lt, Le}
+use Rattle.int64.specs.declared.order.Cmp.the-variants.{Eq, Ne, Lt, Le}
 use Rattle.float.specs.declared.Op.the-variants as FO
-pub use Rattle.answer.specs.Answer.{Result, is, fault, resultOf, truth}
-unfoldable pub use Rattle.answer.specs.Answer.{isNumber}
-pub use Rattle.arith.specs.Arith.{minusOf, divOf}
-unfoldable pub use Rattle.arith.specs.Arith.{ofNumbers, fromInt, converted, floats, asFloats, arithOf, wholeOf, operateOf}
-pub use Rattle.compare.specs.Compare.{Standing, stands, apart, mirror}
-unfoldable pub use Rattle.compare.specs.Compare.{standing, judged, mixed, compareNumbers, compareOthers, compareOf, same}
-unfoldable pub use Rattle.negate.specs.Negate.{notOf, negate}
+pub use Rattle.value.specs.Answer.{Result, is, fault, resultOf, truth}
+unfoldable pub use Rattle.value.specs.Answer.{isNumber}
+pub use Rattle.ops.specs.Arith.{minusOf, divOf}
+unfoldable pub use Rattle.ops.specs.Arith.{ofNumbers, fromInt, converted, floats, asFloats, arithOf, wholeOf, operateOf}
+pub use Rattle.ops.specs.Compare.{Standing, stands, apart, mirror}
+unfoldable pub use Rattle.ops.specs.Compare.{standing, judged, mixed, compareNumbers, compareOthers, compareOf, same}
+unfoldable pub use Rattle.ops.specs.Not.{notOf, negate}
 
 -- ---- by name, and by the node kind
 

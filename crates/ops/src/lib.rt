@@ -1,15 +1,19 @@
-// Minus, and one entry for every binary operator, by its node kind: what an evaluator and a machine both call.
+// Minus, and one entry for every binary operator, by its node kind: what an evaluator and a machine both call. By `arith`, `compare` and `not`.
+mod arith;
+mod compare;
+pub mod not;
+
 ghost use mathlib.Core.Path.{_≡_};
 ghost use Rattle.value.specs.Value.{meaning};
 ghost use Rattle.ops.specs.Ops as Ops;
 ghost use Rattle.ops.specs.Ops.{resultOf};
-use answer::Answer;
-use arith::How;
-use arith::operate;
-use compare::compare;
+use crate::arith::How;
+use crate::arith::operate;
+use crate::compare::compare;
 use int64::Op;
-use order::Cmp;
-use value::value::Value;
+use int64::order::Cmp;
+use value::Value;
+use value::answer::Answer;
 
 // Mul by Int -1.
 pub fn minus(v: Value) -> Answer

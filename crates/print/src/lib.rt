@@ -2,7 +2,7 @@
 mod decimals;
 
 use crate::decimals::say_float;
-use line::word_at;
+use text::fields::word_at;
 ghost use Prim.Native.Nat.{_≤_};
 ghost use lib.ListN.{length};
 

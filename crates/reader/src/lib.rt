@@ -3,12 +3,12 @@ pub mod head;
 mod real;
 
 use crate::real::float;
-use line::NO_WORD;
-use line::field;
-use line::word_no;
-use numeral::Read;
-use numeral::int;
-use numeral::unsigned;
+use text::fields::NO_WORD;
+use text::fields::field;
+use text::fields::word_no;
+use text::numeral::Read;
+use text::numeral::int;
+use text::numeral::unsigned;
 
 // What a line says.
 pub struct Said {

@@ -4,13 +4,13 @@ use crate::INEXACT;
 use crate::NO_NUMBER;
 use crate::TOO_LARGE;
 use crate::got_read;
-use decimal::Real;
-use decimal::exact;
-use line::word_no;
-use numeral::Read;
-use numeral::decimals_after;
-use numeral::is_hex;
-use numeral::unsigned;
+use text::decimal::Real;
+use text::decimal::exact;
+use text::fields::word_no;
+use text::numeral::Read;
+use text::numeral::decimals_after;
+use text::numeral::is_hex;
+use text::numeral::unsigned;
 
 // The float that is m / 10^k, or its negative.
 fn got_exact(neg: bool, m: u64, k: u64) -> Got {

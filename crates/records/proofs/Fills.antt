@@ -19,12 +19,12 @@ use Rattle.table.specs.Table.{shapeFault, checkOf}
 use Rattle.table.specs.declared.Dest.{Dest}
 use Rattle.table.specs.declared.Dest.the-variants.{None}
 use Rattle.eval.specs.Evaluate.{unless, evaluateOf}
-use Rattle.codegen.specs.Compile.{accepted, compileOf}
+use Rattle.compile.specs.Compile.{accepted, compileOf}
 use Rattle.records.specs.Records.{compileNodes, flat, roomFault, holding, flattened, checkNodes, evaluateNodes}
 use Rattle.records.specs.Copy.{none, orNone, copiedOf, put, filled}
-use Rattle.front.specs.Front.{checkFront, evaluateFront, compileFront}
+use Rattle.records.specs.Prefix.{checkFront, evaluateFront, compileFront}
 use Rattle.records.specs.declared.Node.{Node}
-use Rattle.front.proofs.Laws.{has-room, many, fits}
+use Rattle.records.proofs.prefix.Laws.{has-room, many, fits}
 use Rattle.records.proofs.Laws.{length-filled}
 
 -- one number is below another, or it is not

@@ -1,3 +1,4 @@
--- What the contracts of the entries over records cite: their answers, and, for their parts, how they go about it.
+-- What the contracts of `records` cite.
 pub mod Records
 pub mod Copy
+pub mod Prefix

@@ -10,8 +10,8 @@ use Rattle.table.specs.declared.Dest.{Dest}
 use Rattle.ops.specs.Ops.{Result}
 use Rattle.eval.specs.Evaluate.{unless, evaluateOf}
 use Rattle.emit.specs.State.{Res, State}
-use Rattle.codegen.specs.Compile.{accepted, compileOf}
-unfoldable pub use Rattle.front.specs.Front.{roomFault}
+use Rattle.compile.specs.Compile.{accepted, compileOf}
+unfoldable pub use Rattle.records.specs.Prefix.{roomFault}
 use Rattle.records.specs.declared.Node.{Node}
 
 -- the words of a table of records: kind, payload, first, depth

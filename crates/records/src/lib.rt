@@ -1,14 +1,16 @@
 // Thin entries over a lent slice of node records: the records are copied into words that the caller lends, and the word table's own
 // routines do the rest, with the same answers. Records that are too many, or too many for the words lent, are refused before a word is written.
+mod prefix;
+
 ghost use mathlib.Core.Path.{_≡_};
 ghost use lib.ListN.{length};
 ghost use Rattle.ops.specs.Ops.{resultOf};
-ghost use Rattle.report.specs.Report.{Compiles};
+ghost use Rattle.compile.specs.Buffers.{Compiles};
 ghost use Rattle.records.specs.Records.{flattened, checkNodes, evaluateNodes, compileNodes};
 ghost use Rattle.records.specs.Copy.{copiedOf, put};
-use answer::Answer;
-use report::Compiled;
+use compile::buffers::Compiled;
 use table::Dest;
+use value::answer::Answer;
 
 // A node of a table: the four words of document 01, by name.
 pub struct Node {
@@ -22,7 +24,7 @@ pub struct Node {
 fn copied(nodes: usize, words: usize) -> usize
     ensures { λ r. ⌜ r ≡ copiedOf nodes words ⌝ }
 {
-    if front::room_fault(nodes, words) != faults::NONE {
+    if crate::prefix::room_fault(nodes, words) != faults::NONE {
         return 0;
     }
     nodes
@@ -52,14 +54,14 @@ fn flatten(nodes: &[Node], words: &mut [u64])
     }
 }
 
-// The number of a table of records with its layout and its destination: what `checks::check` gives for the same nodes as words. The caller
+// The number of a table of records with its layout and its destination: what `table::check::check` gives for the same nodes as words. The caller
 // lends room for four words a record; 7 where that is too little.
 pub fn check_nodes(nodes: &[Node], words: &mut [u64], params: u64, locals: u64, dest: Dest) -> u8
     ensures { λ r. ⌜ (r ≡ checkNodes (now (nodes .entry)) (length (now (words .entry))) params locals dest)
         × (now (words .exit) ≡ flattened (now (nodes .entry)) (now (words .entry))) ⌝ }
 {
     flatten(nodes, words);
-    front::check_front(words, nodes.len(), params, locals, dest)
+    crate::prefix::check_front(words, nodes.len(), params, locals, dest)
 }
 
 // The answer of a table of records on the values of its parameters and locals: what `eval::evaluate` gives for the same nodes as words.
@@ -76,10 +78,10 @@ pub fn evaluate_nodes(
         × (now (words .exit) ≡ flattened (now (nodes .entry)) (now (words .entry))) ⌝ }
 {
     flatten(nodes, words);
-    front::evaluate_front(words, nodes.len(), params, locals, kinds, payloads)
+    crate::prefix::evaluate_front(words, nodes.len(), params, locals, kinds, payloads)
 }
 
-// The compile of a table of records: what `codegen::compile` answers, and writes, for the same nodes as words. The caller lends room for
+// The compile of a table of records: what `compile` answers, and writes, for the same nodes as words. The caller lends room for
 // four words a record; 7 where that is too little.
 pub fn compile_nodes(
     nodes: &[Node],
@@ -95,7 +97,7 @@ pub fn compile_nodes(
         × (now (words .exit) ≡ flattened (now (nodes .entry)) (now (words .entry))) ⌝ }
 {
     flatten(nodes, words);
-    front::compile_front(
+    crate::prefix::compile_front(
         words,
         nodes.len(),
         params,

@@ -1,4 +1,5 @@
--- What the contracts of the table and of all that recurse over it cite: the check's number, the tree, and what an accepted table holds.
+-- What the contracts of `table` cite.
 pub mod Table
 pub mod Tree
 pub mod Accepted
+pub mod Complete

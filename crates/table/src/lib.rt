@@ -1,4 +1,7 @@
-// The node table: its kinds, the four words of a node, and a node's children.
+// The node table: its kinds, the four words of a node, and a node's children; its check (`check`); filling in first and depth (`complete`).
+pub mod check;
+pub mod complete;
+
 ghost use mathlib.Core.Path.{_≡_};
 ghost use Prim.Native.Nat.{_<_};
 ghost use Rattle.table.specs.Table.{nodeCount, kindAt, payloadAt, firstAt, depthAt, Inner, ChildIs, child1, child2, child3};

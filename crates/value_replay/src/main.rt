@@ -1,7 +1,7 @@
 // Replays operators on lent values, and writes what they answer; tools/oracle/README.md has the layout.
-use answer::Answer;
-use value::value::Lent;
-use value::value::Value;
+use value::Lent;
+use value::Value;
+use value::answer::Answer;
 
 // The operator of a node kind on two values; the second is left alone by Minus and Not.
 fn apply(kind: u64, a: Value, b: Value) -> Answer {
@@ -9,14 +9,14 @@ fn apply(kind: u64, a: Value, b: Value) -> Answer {
         return ops::minus(a);
     }
     if kind == 7 {
-        return negate::not(a);
+        return ops::not::not(a);
     }
     ops::binary(kind, a, b)
 }
 
 // The pair as a value. A kind that no byte holds is none: `byte_of` makes it 255.
 fn lent(kind: u64, payload: u64) -> Lent {
-    value::value::from_pair(wire::byte_of(kind), payload)
+    value::from_pair(replay_io::byte_of(kind), payload)
 }
 
 fn answer(kind: u64, x: Lent, y: Lent) -> Answer {
@@ -32,29 +32,29 @@ fn answer(kind: u64, x: Lent, y: Lent) -> Answer {
 fn write_answer(a: Answer) {
     match a {
         Answer::Is(v) => {
-            wire::write_word(0);
-            wire::write_word(value::value::kind_of(v) as u64);
-            wire::write_word(value::value::payload_of(v));
+            replay_io::write_word(0);
+            replay_io::write_word(value::kind_of(v) as u64);
+            replay_io::write_word(value::payload_of(v));
         }
         Answer::Fault(n) => {
-            wire::write_word(n as u64);
-            wire::write_word(0);
-            wire::write_word(0);
+            replay_io::write_word(n as u64);
+            replay_io::write_word(0);
+            replay_io::write_word(0);
         }
     }
 }
 
 fn replay() {
-    let kind = wire::read_word();
-    let ka = wire::read_word();
-    let pa = wire::read_word();
-    let kb = wire::read_word();
-    let pb = wire::read_word();
+    let kind = replay_io::read_word();
+    let ka = replay_io::read_word();
+    let pa = replay_io::read_word();
+    let kb = replay_io::read_word();
+    let pb = replay_io::read_word();
     write_answer(answer(kind, lent(ka, pa), lent(kb, pb)));
 }
 
 fn main() {
-    let n = wire::read_word();
+    let n = replay_io::read_word();
     for _ in 0..n {
         replay();
     }

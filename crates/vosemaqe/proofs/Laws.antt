@@ -5,20 +5,20 @@ use Prim.Native.Nat.{ℕ}
 use Rattle.table.specs.declared.Dest.{Dest}
 use Rattle.table.specs.Table.{checkOf}
 use Rattle.ops.specs.Ops.{Result, resultOf}
-use Rattle.answer.specs.declared.Answer.{Answer}
-use Rattle.codegen.specs.Compile as C
-use Rattle.report.specs.Report as Report
-use Rattle.codegen.specs.Compile.{compileOf}
-use Rattle.report.specs.declared.Compiled.{Compiled}
+use Rattle.value.specs.declared.answer.Answer.{Answer}
+use Rattle.compile.specs.Compile as C
+use Rattle.compile.specs.Buffers as Report
+use Rattle.compile.specs.Compile.{compileOf}
+use Rattle.compile.specs.declared.buffers.Compiled.{Compiled}
 use Rattle.insns.specs.declared.Made.{Made}
-use Rattle.patch.specs.Patch.{patchedNumber}
+use Rattle.decode.specs.Patch.{patchedNumber}
 use Rattle.decode.specs.declared.Decoded.{Decoded}
-use Rattle.patch.specs.declared.Patched.{Patched}
-use Rattle.cells.specs.Boundary.{destOf, reportOf, Compiles, foundOf, shownOf, coinedOf}
-use Rattle.cells.specs.declared.Report.{Report}
-use Rattle.cells.specs.declared.Found.{Found}
-use Rattle.cells.specs.declared.Shown.{Shown}
-use Rattle.cells.specs.declared.Coined.{Coined}
+use Rattle.decode.specs.declared.patch.Patched.{Patched}
+use Rattle.vosemaqe.specs.Results.{destOf, reportOf, Compiles, foundOf, shownOf, coinedOf}
+use Rattle.vosemaqe.specs.declared.results.Report.{Report}
+use Rattle.vosemaqe.specs.declared.results.Found.{Found}
+use Rattle.vosemaqe.specs.declared.results.Shown.{Shown}
+use Rattle.vosemaqe.specs.declared.results.Coined.{Coined}
 
 pub check-at : (ws : List ℕ) (p l n : ℕ) {d : Dest} {r : ℕ} → d ≡ destOf n → r ≡ checkOf ws p l d → r ≡ checkOf ws p l (destOf n)
 check-at ws p l n e h = rw (← e) h

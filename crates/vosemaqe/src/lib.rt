@@ -1,24 +1,26 @@
 // The library for C and Rust callers. Each function does what the routine of its name does and gives what that gives, as numbers: the number
 // of the answer is returned, results are left in cells. include/vosemaqe.h is the manual.
+mod results;
+
 ghost use mathlib.Core.Path.{_≡_};
 ghost use Prim.Native.Nat.{ℕ, min};
 ghost use lib.ListN.{length, replicate};
 ghost use Rattle.faults.specs.Limits.{maxNodes};
 ghost use Rattle.table.specs.Table.{checkOf};
 ghost use Rattle.eval.specs.Evaluate.{evaluateOf};
-ghost use Rattle.codegen.specs.Compile.{compileOf};
+ghost use Rattle.compile.specs.Compile.{compileOf};
 ghost use Rattle.machine.specs.Run.{out, ran, runOf, runPartOf};
 ghost use Rattle.decode.specs.Decode.{decodeOf};
-ghost use Rattle.patch.specs.Patch.{patchedNumber, patchOf};
-ghost use Rattle.shapes.specs.Shapes.{encodeOf};
-ghost use Rattle.cells.specs.Boundary.{destOf, report, Compiles, found, foundOf, shown, shownOf, coined, coinedOf};
+ghost use Rattle.decode.specs.Patch.{patchedNumber, patchOf};
+ghost use Rattle.operands.specs.Encode.{encodeOf};
+ghost use Rattle.vosemaqe.specs.Results.{destOf, report, Compiles, found, foundOf, shown, shownOf, coined, coinedOf};
 
 // The number of a table with its layout and its destination.
 #[no_mangle]
 pub extern "C" fn vosemaqe_check(nodes: &[u64], params: u64, locals: u64, dest: u64) -> u8
     ensures { λ r. ⌜ r ≡ checkOf (now (nodes .entry)) params locals (destOf dest) ⌝ }
 {
-    checks::check(nodes, params, locals, cells::dest_of(dest))
+    table::check::check(nodes, params, locals, crate::results::dest_of(dest))
 }
 
 // Compiles a node table; a jump list with room for every accepted table comes with it.
@@ -38,16 +40,16 @@ pub extern "C" fn vosemaqe_compile(
 ) -> u8
     ensures { λ r. ⌜ Compiles (report r (now (words .exit)) (now (slots .exit)) (now (reg .exit)) (now (frame .exit))) (compileOf (now (nodes .entry)) params locals (destOf dest) maxNodes (length (now (code .entry))) (min (length (now («slot_kinds» .entry))) (length (now («slot_payloads» .entry))))) (now (code .exit)) (now («slot_kinds» .exit)) (now («slot_payloads» .exit)) (length (now (code .entry))) (length (now («slot_kinds» .entry))) (length (now («slot_payloads» .entry))) ⌝ }
 {
-    let c = codegen::compile::compile(
+    let c = compile::compile(
         nodes,
         params,
         locals,
-        cells::dest_of(dest),
+        crate::results::dest_of(dest),
         code,
         slot_kinds,
         slot_payloads,
     );
-    let r = cells::report_of(c);
+    let r = crate::results::report_of(c);
     *words = r.words;
     *slots = r.slots;
     *reg = r.register;
@@ -74,17 +76,17 @@ pub extern "C" fn vosemaqe_compile_with(
     ensures { λ r. ⌜ Compiles (report r (now (words .exit)) (now (slots .exit)) (now (reg .exit)) (now (frame .exit))) (compileOf (now (nodes .entry)) params locals (destOf dest) (length (now (jumps .entry))) (length (now (code .entry))) (min (length (now («slot_kinds» .entry))) (length (now («slot_payloads» .entry))))) (now (code .exit)) (now («slot_kinds» .exit)) (now («slot_payloads» .exit)) (length (now (code .entry))) (length (now («slot_kinds» .entry))) (length (now («slot_payloads» .entry))) ⌝ }
     ensures { λ _. ⌜ now (jumps .exit) ≡ replicate {A = ℕ} (length (now (jumps .entry))) 0 ⌝ }
 {
-    let c = codegen::compile::compile_with(
+    let c = compile::compile_with(
         nodes,
         params,
         locals,
-        cells::dest_of(dest),
+        crate::results::dest_of(dest),
         code,
         slot_kinds,
         slot_payloads,
         jumps,
     );
-    let r = cells::report_of(c);
+    let r = crate::results::report_of(c);
     *words = r.words;
     *slots = r.slots;
     *reg = r.register;
@@ -106,7 +108,7 @@ pub extern "C" fn vosemaqe_evaluate(
     ensures { λ r. ⌜ found r (now (kind .exit)) (now (payload .exit)) ≡ foundOf (evaluateOf (now (nodes .entry)) params locals (now (kinds .entry)) (now (payloads .entry))) ⌝ }
 {
     let a = eval::evaluate(nodes, params, locals, kinds, payloads);
-    let f = cells::found_of(a);
+    let f = crate::results::found_of(a);
     *kind = f.kind;
     *payload = f.payload;
     f.number
@@ -127,7 +129,7 @@ pub extern "C" fn vosemaqe_run(
 ) -> u8
     ensures { λ r. ⌜ out (ran r (now (steps .exit)) (now (position .exit))) (now (kinds .exit)) (now (payloads .exit)) ≡ runOf (now (words .entry)) (now («slot_kinds» .entry)) (now («slot_payloads» .entry)) budget start (now (kinds .entry)) (now (payloads .entry)) ⌝ }
 {
-    let r = runner::run(
+    let r = run::run(
         words,
         start,
         kinds,
@@ -157,7 +159,7 @@ pub extern "C" fn vosemaqe_run_part(
 ) -> u8
     ensures { λ r. ⌜ out (ran r (now (steps .exit)) (now (position .exit))) (now (kinds .exit)) (now (payloads .exit)) ≡ runPartOf (now (store .entry)) entry end (now («slot_kinds» .entry)) (now («slot_payloads» .entry)) budget (now (kinds .entry)) (now (payloads .entry)) ⌝ }
 {
-    let r = runner::run_part(
+    let r = run::run_part(
         store,
         entry,
         end,
@@ -185,7 +187,7 @@ pub extern "C" fn vosemaqe_decode(
 ) -> u8
     ensures { λ r. ⌜ shown r (now (opcode .exit)) (now (a .exit)) (now (b .exit)) (now (c .exit)) (now (d .exit)) (now (e .exit)) ≡ shownOf (decodeOf word) ⌝ }
 {
-    let s = cells::shown_of(decode::decode(word));
+    let s = crate::results::shown_of(decode::decode(word));
     *opcode = s.opcode;
     *a = s.a;
     *b = s.b;
@@ -208,7 +210,7 @@ pub extern "C" fn vosemaqe_encode(
 ) -> u8
     ensures { λ r. ⌜ coined r (now (word .exit)) ≡ coinedOf (encodeOf opcode a b c d e) ⌝ }
 {
-    let m = cells::coined_of(shapes::encode(opcode, a, b, c, d, e));
+    let m = crate::results::coined_of(operands::encode::encode(opcode, a, b, c, d, e));
     *word = m.word;
     m.number
 }
@@ -218,6 +220,6 @@ pub extern "C" fn vosemaqe_encode(
 pub extern "C" fn vosemaqe_patch(words: &mut [u64], at: usize, target: u64) -> u8
     ensures { λ r. ⌜ (r ≡ patchedNumber (patchOf (now (words .entry)) at target .answer)) × (now (words .exit) ≡ patchOf (now (words .entry)) at target .words) ⌝ }
 {
-    let p = patch::patch(words, at, target);
-    cells::patched_number(p)
+    let p = decode::patch::patch(words, at, target);
+    crate::results::patched_number(p)
 }

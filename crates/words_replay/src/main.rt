@@ -1,13 +1,13 @@
-// Replays words: operands to a constructor, words to `decode`, branches to `patch`. Writes the answers; tools/oracle/README.md has the layout.
+// Replays words: operands to a constructor, words to `decode`, branches to `decode::patch`. Writes the answers; tools/oracle/README.md has the layout.
 use decode::Decoded;
+use decode::patch::Patched;
 use insns::Insn;
 use insns::Made;
 use insns::op::Disp;
 use insns::op::Imm16;
 use insns::op::Imm40;
-use parts::Parts;
-use parts::parts_of;
-use patch::Patched;
+use operands::of_op::Parts;
+use operands::of_op::parts_of;
 
 // An operand of a record as each type. The signed ones are sign-extended to 64 bits.
 fn small_of(x: u64) -> u8 {
@@ -212,14 +212,14 @@ fn construct(op: u64, x1: u64, x2: u64, x3: u64, x4: u64, x5: u64) -> Made {
 
 // An answer: a number and up to six more.
 fn write_row(n: u64, a: u64, b: u64, c: u64, d: u64, e: u64, f: u64) {
-    wire::write_word(n);
-    wire::write_word(a);
-    wire::write_word(b);
-    wire::write_word(c);
-    wire::write_word(d);
-    wire::write_word(e);
-    wire::write_word(f);
-    wire::write_word(0);
+    replay_io::write_word(n);
+    replay_io::write_word(a);
+    replay_io::write_word(b);
+    replay_io::write_word(c);
+    replay_io::write_word(d);
+    replay_io::write_word(e);
+    replay_io::write_word(f);
+    replay_io::write_word(0);
 }
 
 fn wide(op: u8) -> u64 {
@@ -259,30 +259,30 @@ fn number_of(p: Patched) -> u8 {
 fn patch_in(store: &mut [u64], n: u64, at: u64, target: u64) -> Patched {
     if n < store.len() as u64 {
         let k = n as usize;
-        return patch::patch(&mut store[..k], at as usize, target);
+        return decode::patch::patch(&mut store[..k], at as usize, target);
     }
-    patch::patch(store, at as usize, target)
+    decode::patch::patch(store, at as usize, target)
 }
 
 // Patches a store of four words, of which n are in use, and writes the number and the store.
 fn replay_patch(n: u64, at: u64, target: u64, mut store: [u64; 4]) {
     let p = patch_in(&mut store, n, at, target);
-    wire::write_word(wide(number_of(p)));
-    wire::write_words(&store);
-    wire::write_word(0);
-    wire::write_word(0);
-    wire::write_word(0);
+    replay_io::write_word(wide(number_of(p)));
+    replay_io::write_words(&store);
+    replay_io::write_word(0);
+    replay_io::write_word(0);
+    replay_io::write_word(0);
 }
 
 fn replay() {
-    let job = wire::read_word();
-    let a = wire::read_word();
-    let b = wire::read_word();
-    let c = wire::read_word();
-    let d = wire::read_word();
-    let e = wire::read_word();
-    let f = wire::read_word();
-    let g = wire::read_word();
+    let job = replay_io::read_word();
+    let a = replay_io::read_word();
+    let b = replay_io::read_word();
+    let c = replay_io::read_word();
+    let d = replay_io::read_word();
+    let e = replay_io::read_word();
+    let f = replay_io::read_word();
+    let g = replay_io::read_word();
     if job == 0 {
         write_made(construct(a, b, c, d, e, f));
         return;
@@ -295,7 +295,7 @@ fn replay() {
 }
 
 fn main() {
-    let n = wire::read_word();
+    let n = replay_io::read_word();
     for _ in 0..n {
         replay();
     }

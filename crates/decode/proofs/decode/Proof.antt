@@ -2,7 +2,7 @@
 use mathlib.Core.Path.{refl}
 use native.Mathlib.Omega.{arith}
 use mir.Syntax.{w16, w32, w64}
-use Rattle.bits.proofs.Sign.{back}
+use Rattle.insns.proofs.bits.Sign.{back}
 use Rattle.decode.proofs.Sign.{narrows, narrowed}
 use Rattle.decode.proofs.Table.{arm}
 use borrow.Author.Needs.{needs}

@@ -11,12 +11,12 @@ use Rattle.eval.proofs.Walk.{walks, go-node, go-falls}
 use Rattle.eval.proofs.eval_node.Reads as eval-node
 use Rattle.eval.proofs.eval_node.Kinds as eval-node-kinds
 use Rattle.eval.proofs.+eval_node.Lts-eval_node as eval-node-lts
-use Rattle.apply.proofs.alone.Reads as alone-reads
-use Rattle.descend.proofs.first.Reads as first-reads
-use Rattle.apply.proofs.joined.Reads as joined-reads
-use Rattle.apply.proofs.leaf.Reads as leaf-reads
-use Rattle.descend.proofs.next_of.Reads as next-of-reads
-use Rattle.descend.proofs.rule_of.Reads as rule-of-reads
+use Rattle.eval.proofs.apply.alone.Reads as alone-reads
+use Rattle.eval.proofs.next.first.Reads as first-reads
+use Rattle.eval.proofs.apply.joined.Reads as joined-reads
+use Rattle.eval.proofs.apply.leaf.Reads as leaf-reads
+use Rattle.eval.proofs.next.next_of.Reads as next-of-reads
+use Rattle.eval.proofs.next.rule_of.Reads as rule-of-reads
 use Rattle.eval.proofs.+eval_node.{statement}
 use Rattle.eval.proofs.+eval_node.Tie.{close}
 

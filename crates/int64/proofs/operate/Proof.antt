@@ -8,15 +8,15 @@ use Rattle.int64.proofs.operate.Tie as tie
 
 returns : tie.Need-returns
 unfolding operate
-returns c = rw (c .before .enum-told .given .1) (c .exact .ensures)
+returns c = rw (c .before .enum-told .given .1) (c .arithmetic .ensures)
 
 returns-2 : tie.Need-returns-2
 unfolding operate
-returns-2 c = rw (c .before .enum-told2 .given .1) (c .exact2 .ensures)
+returns-2 c = rw (c .before .enum-told2 .given .1) (c .arithmetic2 .ensures)
 
 returns-3 : tie.Need-returns-3
 unfolding operate
-returns-3 c = rw (c .before .enum-told3 .given .1) (c .exact3 .ensures)
+returns-3 c = rw (c .before .enum-told3 .given .1) (c .arithmetic3 .ensures)
 
 returns-4 : tie.Need-returns-4
 unfolding operate

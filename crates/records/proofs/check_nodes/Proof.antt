@@ -39,7 +39,7 @@ use denote.Triple.Table.{entered, cited}
 use denote.Triple.Walked.{says, Stays, stay-none-slice, gave-slice, stay-none, walkOf, goes-none-slice, goes-gave-slice, goes-none, Walks, ends-at, walked, walk-meets}
 use denote.Exit.{yes}
 use Rattle.records.specs.Records.{flattened}
-use Rattle.front.specs.Front.{checkFront}
+use Rattle.records.specs.Prefix.{checkFront}
 use Rattle.records.specs.declared.Node.{Node}
 use Rattle.records.proofs.Node as T
 use Rattle.table.specs.declared.Dest.{Dest}
@@ -53,10 +53,10 @@ use Rattle.records.proofs.Records.{Lent}
 use Rattle.records.proofs.flatten.Symbol as flatten-def
 use Rattle.records.proofs.flatten.Symbol.{name as #flatten}
 use Rattle.records.proofs.flatten.Met as flatten-thm
-use Rattle.front.proofs.check_front as check-front
-use Rattle.front.proofs.check_front.Symbol as check-front-def
-use Rattle.front.proofs.check_front.Symbol.{name as #check-front}
-use Rattle.front.proofs.check_front.Met as check-front-thm
+use Rattle.records.proofs.prefix.check_front as check-front
+use Rattle.records.proofs.prefix.check_front.Symbol as check-front-def
+use Rattle.records.proofs.prefix.check_front.Symbol.{name as #check-front}
+use Rattle.records.proofs.prefix.check_front.Met as check-front-thm
 use Rattle.records.proofs.check_nodes.Key.{name as #check-nodes}
 use Rattle.records.proofs.check_nodes as f
 use Rattle.records.proofs.check_nodes.Statement as stated
@@ -174,4 +174,4 @@ check-nodes-spec 𝓤 H 𝓜 𝓖 𝓡 =
     (tables 𝓤 H 𝓜 𝓡 code.env .C) (tables 𝓤 H 𝓜 𝓡 code.env .Λ) #check-nodes code.function (code.unfolded 𝓤 H 𝓜 𝓡)
     (f-meets 𝓤 H (𝓖 .A) (givenOf 𝓤 H 𝓜 𝓖) (𝓜 .mem) (𝓡 .run) (tablesOf 𝓤 H 𝓜 (tables 𝓤 H 𝓜 𝓡 code.env))
     (cited 𝓤 H (Flatten 𝓤 H (𝓖 .A) (𝓜 .mem) (𝓡 .run)) 𝓜 𝓡 code.env #flatten flatten-def.routine code.calls-records·flatten (flatten-thm.met 𝓤 H 𝓜 𝓖 𝓡))
-    (cited 𝓤 H (Front 𝓤 H (𝓖 .A) (𝓜 .mem) (𝓡 .run)) 𝓜 𝓡 code.env #check-front check-front-def.routine code.calls-front·check-front (check-front-thm.met 𝓤 H 𝓜 𝓖 𝓡)))
+    (cited 𝓤 H (Front 𝓤 H (𝓖 .A) (𝓜 .mem) (𝓡 .run)) 𝓜 𝓡 code.env #check-front check-front-def.routine code.calls-records·prefix·check-front (check-front-thm.met 𝓤 H 𝓜 𝓖 𝓡)))

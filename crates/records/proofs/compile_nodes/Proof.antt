@@ -39,14 +39,14 @@ use denote.Triple.Table.{entered, cited}
 use denote.Triple.Walked.{says, Stays, stay-none-slice, gave-slice, stay-none, walkOf, goes-none-slice, goes-gave-slice, goes-none, Walks, ends-at, walked, walk-meets}
 use denote.Exit.{yes}
 use Rattle.records.specs.Records.{flattened}
-use Rattle.front.specs.Front.{compileFront}
+use Rattle.records.specs.Prefix.{compileFront}
 use Rattle.records.specs.declared.Node.{Node}
 use Rattle.records.proofs.Node as T
 use Rattle.emit.specs.State.{Res, State}
-use Rattle.report.specs.Report.{Compiles}
-use Rattle.report.specs.declared.Compiled.{Compiled}
-use Rattle.report.proofs.Compiled as Ans
-use Rattle.report.proofs.Compiled.Laws as Ans′
+use Rattle.compile.specs.Buffers.{Compiles}
+use Rattle.compile.specs.declared.buffers.Compiled.{Compiled}
+use Rattle.compile.proofs.buffers.Compiled as Ans
+use Rattle.compile.proofs.buffers.Compiled.Laws as Ans′
 use Rattle.table.specs.declared.Dest.{Dest}
 use Rattle.table.proofs.Dest as D
 use Rattle.table.proofs.Dest.Laws as D′
@@ -58,10 +58,10 @@ use Rattle.records.proofs.Records.{Lent}
 use Rattle.records.proofs.flatten.Symbol as flatten-def
 use Rattle.records.proofs.flatten.Symbol.{name as #flatten}
 use Rattle.records.proofs.flatten.Met as flatten-thm
-use Rattle.front.proofs.compile_front as compile-front
-use Rattle.front.proofs.compile_front.Symbol as compile-front-def
-use Rattle.front.proofs.compile_front.Symbol.{name as #compile-front}
-use Rattle.front.proofs.compile_front.Met as compile-front-thm
+use Rattle.records.proofs.prefix.compile_front as compile-front
+use Rattle.records.proofs.prefix.compile_front.Symbol as compile-front-def
+use Rattle.records.proofs.prefix.compile_front.Symbol.{name as #compile-front}
+use Rattle.records.proofs.prefix.compile_front.Met as compile-front-thm
 use Rattle.records.proofs.compile_nodes.Key.{name as #compile-nodes}
 use Rattle.records.proofs.compile_nodes as f
 use Rattle.records.proofs.compile_nodes.Statement as stated
@@ -270,4 +270,4 @@ compile-nodes-spec 𝓤 H 𝓜 𝓖 𝓡 =
     (tables 𝓤 H 𝓜 𝓡 code.env .C) (tables 𝓤 H 𝓜 𝓡 code.env .Λ) #compile-nodes code.function (code.unfolded 𝓤 H 𝓜 𝓡)
     (f-meets 𝓤 H (𝓖 .A) (givenOf 𝓤 H 𝓜 𝓖) (𝓜 .mem) (𝓡 .run) (tablesOf 𝓤 H 𝓜 (tables 𝓤 H 𝓜 𝓡 code.env))
     (cited 𝓤 H (Flatten 𝓤 H (𝓖 .A) (𝓜 .mem) (𝓡 .run)) 𝓜 𝓡 code.env #flatten flatten-def.routine code.calls-records·flatten (flatten-thm.met 𝓤 H 𝓜 𝓖 𝓡))
-    (cited 𝓤 H (Front 𝓤 H (𝓖 .A) (𝓜 .mem) (𝓡 .run)) 𝓜 𝓡 code.env #compile-front compile-front-def.routine code.calls-front·compile-front (compile-front-thm.met 𝓤 H 𝓜 𝓖 𝓡)))
+    (cited 𝓤 H (Front 𝓤 H (𝓖 .A) (𝓜 .mem) (𝓡 .run)) 𝓜 𝓡 code.env #compile-front compile-front-def.routine code.calls-records·prefix·compile-front (compile-front-thm.met 𝓤 H 𝓜 𝓖 𝓡)))

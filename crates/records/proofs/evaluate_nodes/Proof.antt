@@ -39,13 +39,13 @@ use denote.Triple.Table.{entered, cited}
 use denote.Triple.Walked.{says, Stays, stay-none-slice, gave-slice, stay-none, walkOf, goes-none-slice, goes-gave-slice, goes-none, Walks, ends-at, walked, walk-meets}
 use denote.Exit.{yes}
 use Rattle.records.specs.Records.{flattened}
-use Rattle.front.specs.Front.{evaluateFront}
+use Rattle.records.specs.Prefix.{evaluateFront}
 use Rattle.records.specs.declared.Node.{Node}
 use Rattle.records.proofs.Node as T
 use Rattle.ops.specs.Ops.{resultOf}
-use Rattle.answer.specs.declared.Answer.{Answer}
-use Rattle.answer.proofs.Answer as Ans
-use Rattle.answer.proofs.Answer.Laws as Ans′
+use Rattle.value.specs.declared.answer.Answer.{Answer}
+use Rattle.value.proofs.answer.Answer as Ans
+use Rattle.value.proofs.answer.Answer.Laws as Ans′
 use Rattle.records.proofs.Fills.{length-flattened, evaluate-is}
 use Rattle.records.proofs.Flattens as Flat
 use Rattle.records.proofs.Flattens.{Flatten, Words, words, lends-to, comes-from}
@@ -54,10 +54,10 @@ use Rattle.records.proofs.Records.{Lent}
 use Rattle.records.proofs.flatten.Symbol as flatten-def
 use Rattle.records.proofs.flatten.Symbol.{name as #flatten}
 use Rattle.records.proofs.flatten.Met as flatten-thm
-use Rattle.front.proofs.evaluate_front as evaluate-front
-use Rattle.front.proofs.evaluate_front.Symbol as evaluate-front-def
-use Rattle.front.proofs.evaluate_front.Symbol.{name as #evaluate-front}
-use Rattle.front.proofs.evaluate_front.Met as evaluate-front-thm
+use Rattle.records.proofs.prefix.evaluate_front as evaluate-front
+use Rattle.records.proofs.prefix.evaluate_front.Symbol as evaluate-front-def
+use Rattle.records.proofs.prefix.evaluate_front.Symbol.{name as #evaluate-front}
+use Rattle.records.proofs.prefix.evaluate_front.Met as evaluate-front-thm
 use Rattle.records.proofs.evaluate_nodes.Key.{name as #evaluate-nodes}
 use Rattle.records.proofs.evaluate_nodes as f
 use Rattle.records.proofs.evaluate_nodes.Statement as stated
@@ -213,4 +213,4 @@ evaluate-nodes-spec 𝓤 H 𝓜 𝓖 𝓡 =
     (tables 𝓤 H 𝓜 𝓡 code.env .C) (tables 𝓤 H 𝓜 𝓡 code.env .Λ) #evaluate-nodes code.function (code.unfolded 𝓤 H 𝓜 𝓡)
     (f-meets 𝓤 H (𝓖 .A) (givenOf 𝓤 H 𝓜 𝓖) (𝓜 .mem) (𝓡 .run) (tablesOf 𝓤 H 𝓜 (tables 𝓤 H 𝓜 𝓡 code.env))
     (cited 𝓤 H (Flatten 𝓤 H (𝓖 .A) (𝓜 .mem) (𝓡 .run)) 𝓜 𝓡 code.env #flatten flatten-def.routine code.calls-records·flatten (flatten-thm.met 𝓤 H 𝓜 𝓖 𝓡))
-    (cited 𝓤 H (Front 𝓤 H (𝓖 .A) (𝓜 .mem) (𝓡 .run)) 𝓜 𝓡 code.env #evaluate-front evaluate-front-def.routine code.calls-front·evaluate-front (evaluate-front-thm.met 𝓤 H 𝓜 𝓖 𝓡)))
+    (cited 𝓤 H (Front 𝓤 H (𝓖 .A) (𝓜 .mem) (𝓡 .run)) 𝓜 𝓡 code.env #evaluate-front evaluate-front-def.routine code.calls-records·prefix·evaluate-front (evaluate-front-thm.met 𝓤 H 𝓜 𝓖 𝓡)))

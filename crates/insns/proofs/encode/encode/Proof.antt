@@ -3,7 +3,7 @@ use mathlib.Core.Path.{_≡_}
 use mir.Syntax.{w16, w32, w64}
 use mir.Val.{toZ, ofZ}
 use Rattle.insns.proofs.Arms.{arm-made}
-use Rattle.bits.proofs.Sign.{widens, widened}
+use Rattle.insns.proofs.bits.Sign.{widens, widened}
 use borrow.Author.Needs.{needs}
 use Rattle.insns.proofs.encode.encode.Statement.{statement}
 use Rattle.insns.proofs.encode.encode.Tie as tie

@@ -1,3 +1,0 @@
--- What the contracts of `answer` cite.
-pub mod Answer
-pub mod Seen

@@ -1,2 +1,0 @@
--- What the contracts of `arith` cite.
-pub mod Arith

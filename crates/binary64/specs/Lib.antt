@@ -1,2 +1,0 @@
--- What the contracts of `binary64` cite.
-pub mod Binary64

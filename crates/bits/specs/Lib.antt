@@ -1,2 +1,0 @@
--- What the contracts of an operand's bits cite.
-pub mod Bits

@@ -1,0 +1,299 @@
+-- What folds and branches rest on, as laws over values: an immediate is its value, a mask word's mask is the literal that it was made of, an operator with a
+-- literal is the operator, a branch of the other sense is the opposite, and a mirrored comparison is the comparison. Assumes nothing.
+use mathlib.Core.Path.{_≡_, refl, sym, ap, _∙_}
+use mathlib.Core.Bool.{Bool, true, false, cond, _&&_}
+use Prim.Native.Nat.{ℕ, zero, suc, _+_, _-_, _*_, _/_, _%_, _^_, _≤_, _<_}
+use native.Mathlib.Omega.{arith}
+use native.Mathlib.Nat.{mul-div-right, div-eq-of-lt-le, mod-add-div, pow-succ', pow-le-pow-right, mod-eq-of-lt, mul-assoc, mul-suc, mul-one, one-mul, mul-comm, suc-mul}
+use lib.Dec.{leb, eqb}
+use lib.IntN.{ℤ, pos, negsuc, negℤ}
+use lib.Signed.{ltZ}
+use lib.Pow.{pow-add, pow-pos}
+use mir.Syntax.{w64}
+use mir.Val.{toZ}
+use borrow.Author.Tests.{ltb-true, eqb-true, ne-eqb, lt-ltb, leb-true}
+use Rattle.insns.specs.declared.op.Sense.the-variants as Sense
+use Rattle.value.specs.Value.{Datum, nil, bool, int, float}
+use Rattle.ops.specs.Ops.{Result, is, fault, truth as yes, isNumber, standing, Standing, stands, apart, judged, mixed, compareNumbers, compareOthers, compareOf, same, notOf, negate, eqOf, neOf, binaryOf}
+use Rattle.int64.specs.Mask.{maskOf}
+use Rattle.int64.specs.Order.{orderZ, isEqual}
+use Rattle.int64.specs.Order as Order
+use Rattle.int64.specs.declared.order.Cmp.the-variants.{Eq, Ne}
+use Rattle.effect.specs.Effect as M
+use Rattle.table.specs.Tree.{Arith, bitAnd, bitOr, bitXor, lshift, rshift, add, sub, mul, div, mod′, Cmp, eq, ne, lt, le, gt, ge}
+use Rattle.eval.specs.Eval as E
+use Rattle.fold.specs.declared.literal.Run.the-variants.{Ones, Other}
+use Rattle.fold.specs.Literal.{fitsImm40, bits, runAt, runFrom, bitRun}
+use Rattle.fold.specs.Opcodes.{threeOf, mirror, branchOf}
+use Rattle.emit.specs.Steps.{rawNil, rawTrue, rawFalse, rawInt}
+use Rattle.claim.proofs.fragments.Runs.{Truth, truth, wrong, test, sameT}
+
+-- ---- immediates
+
+raw-down : (n : ℕ) → negℤ (pos (4 * suc n)) ≡ negsuc (4 * n + 3)
+raw-down n = let e : 4 * suc n ≡ suc (4 * n + 3) = omega arith in ap (λ (k : ℕ). negℤ (pos k)) e
+
+quarter : (n : ℕ) → (4 * n + 3) / 4 ≡ n
+quarter n = div-eq-of-lt-le 4 (omega arith) (omega arith)
+
+pub raw-nil : M.rawOf (rawNil .raw) ≡ is nil
+unfolding M.rawOf
+raw-nil = refl
+
+pub raw-true : M.rawOf (rawTrue .raw) ≡ is (bool true)
+unfolding M.rawOf
+raw-true = refl
+
+pub raw-false : M.rawOf (rawFalse .raw) ≡ is (bool false)
+unfolding M.rawOf
+raw-false = refl
+
+pub raw-int : (z : ℤ) → fitsImm40 z ≡ true → M.rawOf (rawInt z .raw) ≡ is (int z)
+unfolding M.rawOf
+raw-int (pos n) h =
+    rw (ne-eqb (4 * n) 1 (omega arith), ne-eqb (4 * n) 5 (omega arith), ne-eqb (4 * n) 9 (omega arith))
+    (ap (λ (k : ℕ). is (int (pos k))) (mul-div-right n (omega arith)))
+raw-int (negsuc n) h =
+    let small : n < 2 ^ 37 = ltb-true n (2 ^ 37) h in
+    let m = 2 ^ 64 - suc (4 * n + 3) in
+    rw (raw-down n, ne-eqb m 1 (omega arith), ne-eqb m 5 (omega arith), ne-eqb m 9 (omega arith)) (ap (λ (k : ℕ). is (int (negsuc k))) (quarter n))
+
+-- ---- one run of ones
+
+pub and-both : (a b : Bool) → a && b ≡ true → (a ≡ true) × (b ≡ true)
+and-both true b h = (refl, h)
+and-both false b h = let z : _≡_ {A = ℕ} 0 1 = cc in absurd (omega arith)
+
+-- the counted zeros are there
+zeros-are : (f n : ℕ) → (q : ℕ) × (n ≡ 2 ^ bits 0 f n * q)
+unfolding bits
+zeros-are zero n = (n, sym (one-mul n))
+zeros-are (suc f) n = go (eqb (n % 2) 0) refl (zeros-are f (n / 2))
+  where
+    go :
+        (b : Bool) → eqb (n % 2) 0 ≡ b → ((q : ℕ) × (n / 2 ≡ 2 ^ bits 0 f (n / 2) * q)) →
+        (q : ℕ) × (n ≡ 2 ^ cond b (suc (bits 0 f (n / 2))) 0 * q)
+    go false e r = (n, sym (one-mul n))
+    go true e r =
+        let k = bits 0 f (n / 2) in
+        let even : n ≡ 2 * (n / 2) = omega (arith, mod-add-div n 2, eqb-true (n % 2) 0 e) in
+        (r .0, even ∙ ap (λ (x : ℕ). 2 * x) (r .1) ∙ sym (mul-assoc 2 (2 ^ k) (r .0)) ∙ ap (λ (x : ℕ). x * r .0) (sym (pow-succ' 2 k)))
+
+-- the counted ones are there
+ones-are : (f n : ℕ) → (q : ℕ) × (suc n ≡ 2 ^ bits 1 f n * suc q)
+unfolding bits
+ones-are zero n = (n, sym (one-mul (suc n)))
+ones-are (suc f) n = go (eqb (n % 2) 1) refl (ones-are f (n / 2))
+  where
+    go :
+        (b : Bool) → eqb (n % 2) 1 ≡ b → ((q : ℕ) × (suc (n / 2) ≡ 2 ^ bits 1 f (n / 2) * suc q)) →
+        (q : ℕ) × (suc n ≡ 2 ^ cond b (suc (bits 1 f (n / 2))) 0 * suc q)
+    go false e r = (n, sym (one-mul (suc n)))
+    go true e r =
+        let k = bits 1 f (n / 2) in
+        let odd : suc n ≡ 2 * suc (n / 2) = omega (arith, mod-add-div n 2, eqb-true (n % 2) 1 e) in
+        (r .0, odd ∙ ap (λ (x : ℕ). 2 * x) (r .1) ∙ sym (mul-assoc 2 (2 ^ k) (suc (r .0))) ∙ ap (λ (x : ℕ). x * suc (r .0)) (sym (pow-succ' 2 k)))
+
+div-past : (n x q : ℕ) → 0 < x → suc n ≡ x * suc q → n / x ≡ q
+div-past n x q h e =
+    div-eq-of-lt-le x (omega (arith, mul-suc x q, mul-comm x q)) (omega (arith, mul-suc x q, mul-comm x q, suc-mul q x))
+
+-- a mask word's mask, of one run
+pub record Mask (z : ℤ) (lo len : ℕ) : Type 0 where
+  pub short : lo + len ≤ 62
+  pub reads : toZ w64 (maskOf lo len) ≡ z
+
+mask-of : (m k l : ℕ) → k ≡ bits 0 64 m → l ≡ bits 1 64 (m / 2 ^ k) → m / 2 ^ k / 2 ^ l ≡ 0 → k + l ≤ 62 → Mask (pos m) k l
+unfolding maskOf
+mask-of m k l ek el none short = record { short = short; reads = cut }
+  where
+    shift : (q : ℕ) × (m ≡ 2 ^ k * q)
+    shift = rw ek (zeros-are 64 m)
+
+    run : (q : ℕ) × (suc (m / 2 ^ k) ≡ 2 ^ l * suc q)
+    run = rw el (ones-are 64 (m / 2 ^ k))
+
+    body : m / 2 ^ k ≡ 2 ^ l - 1
+    body =
+        let z : run .0 ≡ 0 = sym (div-past (m / 2 ^ k) (2 ^ l) (run .0) (pow-pos l) (run .1)) ∙ none in
+        let e : suc (m / 2 ^ k) ≡ 2 ^ l * 1 = run .1 ∙ ap (λ (q : ℕ). 2 ^ l * suc q) z in
+        omega (arith, mul-one (2 ^ l))
+
+    is-mask : m ≡ 2 ^ k * (2 ^ l - 1)
+    is-mask = shift .1 ∙ ap (λ (q : ℕ). 2 ^ k * q) (sym (mul-div-right (shift .0) (pow-pos k)) ∙ ap (λ (n : ℕ). n / 2 ^ k) (sym (shift .1)) ∙ body)
+
+    low : m < 2 ^ 62
+    low =
+        let e : 2 ^ k * 2 ^ l ≡ 2 ^ (k + l) = sym (pow-add 2 k l) in
+        let u : 2 ^ (k + l) ≤ 2 ^ 62 = pow-le-pow-right (omega arith) short in
+        let s : 2 ^ k * suc (2 ^ l - 1) ≡ 2 ^ k * 2 ^ l = ap (λ (x : ℕ). 2 ^ k * x) (omega (arith, pow-pos l)) in
+        omega (arith, is-mask, mul-suc (2 ^ k) (2 ^ l - 1), pow-pos k)
+
+    cut : toZ w64 (maskOf k l) ≡ pos m
+    cut = rw (← is-mask, mod-eq-of-lt {n = m} {m = 2 ^ 64} (omega (arith, low)), lt-ltb m (2 ^ 63) (omega (arith, low)))
+
+pub mask-is : (z : ℤ) (lo len : ℕ) → bitRun z ≡ Ones lo len → Mask z lo len
+unfolding bitRun runFrom runAt
+mask-is (negsuc m) lo len h = let z : _≡_ {A = ℕ} 0 1 = cc in absurd (omega arith)
+mask-is (pos m) lo len h = go (eqb m 0) h
+  where
+    k : ℕ
+    k = bits 0 64 m
+
+    l : ℕ
+    l = bits 1 64 (m / 2 ^ k)
+
+    ran : (b : Bool) → eqb (m / 2 ^ k / 2 ^ l) 0 && leb (k + l) 62 ≡ b → cond b (Ones k l) Other ≡ Ones lo len → Mask (pos m) lo len
+    ran false e h = let z : _≡_ {A = ℕ} 0 1 = cc in absurd (omega arith)
+    ran true e h =
+        let s = and-both (eqb (m / 2 ^ k / 2 ^ l) 0) (leb (k + l) 62) e in
+        let a : k ≡ lo = cc in
+        let b : l ≡ len = cc in
+        rw (← a, ← b) (mask-of m k l refl refl (eqb-true (m / 2 ^ k / 2 ^ l) 0 (s .0)) (leb-true (k + l) 62 (s .1)))
+
+    go : (b : Bool) → cond b Other (runFrom m k) ≡ Ones lo len → Mask (pos m) lo len
+    go true h = let z : _≡_ {A = ℕ} 0 1 = cc in absurd (omega arith)
+    go false h = ran (eqb (m / 2 ^ k / 2 ^ l) 0 && leb (k + l) 62) refl h
+
+-- ---- operators: the machine's by number, the tree's by name
+
+both-is : (k : ℕ) (f : Datum → Datum → Result) → ((x y : Datum) → binaryOf k x y ≡ f x y) → (a b : Result) → M.both k a b ≡ E.both f a b
+unfolding M.both E.both E.on
+both-is k f e (is x) (is y) = e x y
+both-is k f e (is x) (fault n) = refl
+both-is k f e (fault n) b = refl
+
+arith-is : (o : Arith) (x y : Datum) → binaryOf (M.threeKind (threeOf o)) x y ≡ E.arithOf o x y
+unfolding E.arithOf
+arith-is bitAnd x y = refl
+arith-is bitOr x y = refl
+arith-is bitXor x y = refl
+arith-is lshift x y = refl
+arith-is rshift x y = refl
+arith-is add x y = refl
+arith-is sub x y = refl
+arith-is mul x y = refl
+arith-is div x y = refl
+arith-is mod′ x y = refl
+
+pub three-is : (o : Arith) (a b : Result) → M.both (M.threeKind (threeOf o)) a b ≡ E.both (E.arithOf o) a b
+three-is o = both-is (M.threeKind (threeOf o)) (E.arithOf o) (arith-is o)
+
+-- an operand's fault is handed on
+pub both-left : (k e : ℕ) (b : Result) → M.both k (fault e) b ≡ fault e
+unfolding M.both
+both-left k e b = refl
+
+pub both-right : (k : ℕ) (x : Datum) (e : ℕ) → M.both k (is x) (fault e) ≡ fault e
+unfolding M.both
+both-right k x e = refl
+
+-- ---- branches
+
+pub opposite : (r : Result) → test (M.inverted r) ≡ sameT false (test r)
+unfolding M.inverted negate notOf
+opposite (is nil) = refl
+opposite (is (bool b)) = refl
+opposite (is (int z)) = refl
+opposite (is (float p)) = refl
+opposite (fault e) = refl
+
+as-it-is : (t : Truth) → t ≡ sameT true t
+as-it-is (truth b) = refl
+as-it-is (wrong e) = refl
+
+twice : (t : Truth) → t ≡ sameT false (sameT false t)
+twice (truth true) = refl
+twice (truth false) = refl
+twice (wrong e) = refl
+
+cmp-is : (k : ℕ) (c : Cmp) → ((x y : Datum) → binaryOf k x y ≡ E.cmpOf c x y) → (s : Bool) (a b : Result) → test (cond s (M.both k a b) (M.inverted (M.both k a b))) ≡ sameT s (test (E.both (E.cmpOf c) a b))
+cmp-is k c e true a b = ap test (both-is k (E.cmpOf c) e a b) ∙ as-it-is (test (E.both (E.cmpOf c) a b))
+cmp-is k c e false a b = opposite (M.both k a b) ∙ ap (λ (r : Result). sameT false (test r)) (both-is k (E.cmpOf c) e a b)
+
+-- Ne is Not of Eq
+ne-mixed : (s : Standing) → judged Ne s ≡ M.inverted (judged Eq s)
+unfolding M.inverted judged notOf negate Order.holds
+ne-mixed (stands o) = refl
+ne-mixed apart = refl
+
+ne-eq : (x y : Datum) → neOf x y ≡ M.inverted (eqOf x y)
+unfolding M.inverted compareOf compareNumbers compareOthers isNumber notOf negate mixed judged standing Order.holds
+ne-eq nil y = refl
+ne-eq (bool b) y = refl
+ne-eq (int a) nil = refl
+ne-eq (int a) (bool b) = refl
+ne-eq (int a) (int b) = refl
+ne-eq (int a) (float q) = ne-mixed (standing a q)
+ne-eq (float p) nil = refl
+ne-eq (float p) (bool b) = refl
+ne-eq (float p) (int b) = ne-mixed (standing b p)
+ne-eq (float p) (float q) = refl
+
+not-equal : (a b : Result) → E.both (E.cmpOf ne) a b ≡ M.inverted (E.both (E.cmpOf eq) a b)
+unfolding E.both E.on E.cmpOf M.inverted negate
+not-equal (is x) (is y) = ne-eq x y
+not-equal (is x) (fault n) = refl
+not-equal (fault n) b = refl
+
+-- the branch for a comparison and a sense: not less is not less, also of a NaN and of a fault
+pub jump-is : (c : Cmp) (s : Bool) (a b : Result) → test (M.compare (branchOf c s) a b) ≡ sameT s (test (E.both (E.cmpOf c) a b))
+unfolding M.compare E.cmpOf
+jump-is eq true a b = cmp-is 18 eq (λ x y. refl) true a b
+jump-is ne true a b = cmp-is 19 ne (λ x y. refl) true a b
+jump-is lt true a b = cmp-is 20 lt (λ x y. refl) true a b
+jump-is le true a b = cmp-is 21 le (λ x y. refl) true a b
+jump-is gt true a b = cmp-is 22 gt (λ x y. refl) true a b
+jump-is ge true a b = cmp-is 23 ge (λ x y. refl) true a b
+jump-is eq false a b =
+    cmp-is 19 ne (λ x y. refl) true a b ∙ sym (as-it-is (test (E.both (E.cmpOf ne) a b))) ∙ ap test (not-equal a b) ∙ opposite (E.both (E.cmpOf eq) a b)
+jump-is ne false a b =
+    cmp-is 18 eq (λ x y. refl) true a b ∙ sym (as-it-is (test (E.both (E.cmpOf eq) a b))) ∙ twice (test (E.both (E.cmpOf eq) a b))
+    ∙ ap (sameT false) (sym (opposite (E.both (E.cmpOf eq) a b)) ∙ ap test (sym (not-equal a b)))
+jump-is lt false a b = cmp-is 20 lt (λ x y. refl) false a b
+jump-is le false a b = cmp-is 21 le (λ x y. refl) false a b
+jump-is gt false a b = cmp-is 22 gt (λ x y. refl) false a b
+jump-is ge false a b = cmp-is 23 ge (λ x y. refl) false a b
+
+pub sense-is : (s : Bool) (r : Result) → test (M.senseOf (cond s Sense.Yes Sense.No) r) ≡ sameT s (test r)
+unfolding M.senseOf
+sense-is true r = as-it-is (test r)
+sense-is false r = opposite r
+
+-- ---- a comparison with its operands exchanged
+
+isEqual-sym : (a b : ℤ) → isEqual (orderZ a b) ≡ isEqual (orderZ b a)
+unfolding orderZ
+isEqual-sym a b = go (ltZ a b) (ltZ b a)
+  where
+    go :
+        (t u : Bool) →
+        isEqual (cond t Order.less (cond u Order.greater Order.equal)) ≡ isEqual (cond u Order.less (cond t Order.greater Order.equal))
+    go true true = refl
+    go true false = refl
+    go false true = refl
+    go false false = refl
+
+eq-sym : (z : ℤ) (x : Datum) → eqOf x (int z) ≡ eqOf (int z) x
+unfolding compareOf compareNumbers compareOthers isNumber same Order.holds
+eq-sym z nil = refl
+eq-sym z (bool b) = refl
+eq-sym z (int a) = ap yes (isEqual-sym a z)
+eq-sym z (float p) = refl
+
+ne-sym : (z : ℤ) (x : Datum) → neOf x (int z) ≡ neOf (int z) x
+ne-sym z x = ne-eq x (int z) ∙ ap M.inverted (eq-sym z x) ∙ sym (ne-eq (int z) x)
+
+mirrored : (c : Cmp) (z : ℤ) (x : Datum) → E.cmpOf (mirror c) x (int z) ≡ E.cmpOf c (int z) x
+unfolding E.cmpOf
+mirrored eq z x = eq-sym z x
+mirrored ne z x = ne-sym z x
+mirrored lt z x = refl
+mirrored le z x = refl
+mirrored gt z x = refl
+mirrored ge z x = refl
+
+pub mirror-is : (c : Cmp) (z : ℤ) (a : Result) → E.both (E.cmpOf (mirror c)) a (is (int z)) ≡ E.both (E.cmpOf c) (is (int z)) a
+unfolding E.both E.on
+mirror-is c z (is x) = mirrored c z x
+mirror-is c z (fault n) = refl

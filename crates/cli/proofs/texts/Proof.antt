@@ -1,0 +1,28 @@
+-- `texts` is safe and ends. Assumes nothing.
+use Prim.Native.Nat.{_≤_, _-_}
+use lib.ListN.{length}
+use borrow.Author.Needs.{needs}
+use Rattle.cli.proofs.texts.Statement.{statement}
+use Rattle.cli.proofs.texts.Tie as tie
+
+abbrev Inv-loop : tie.InvT-loop
+Inv-loop s line₀ at₀ line at = at ≤ length s
+
+abbrev μ-loop : tie.MeasureT-loop
+μ-loop s line₀ at₀ line at = length s - at
+
+pub texts-spec : {M : Type 1} → statement M
+texts-spec =
+    tie.close
+    (tie.spec
+    Inv-loop
+    μ-loop
+    (λ c. search needs)
+    (λ c κs. search needs)
+    (λ c. search needs)
+    (λ c. search needs)
+    (λ c. search needs)
+    (λ c κs. search needs)
+    (λ c. search needs)
+    (λ c. search needs)
+    (λ c. search needs))

@@ -1,2 +1,0 @@
--- What the contracts of `compare` cite.
-pub mod Compare

@@ -1,0 +1,170 @@
+-- What the proofs of `generate`, `compile` and `compile_with` cite: what a checked table gives, from the root's answer. Assumes nothing.
+use mathlib.Core.Path.{_≡_, refl, sym, ap, subst, _∙_}
+use mathlib.Core.List.{List, [], _∷_, _++_, map}
+use Prim.Native.Nat.{ℕ, zero, suc, _+_, _*_, _-_, _<_, _≤_, min}
+use native.Mathlib.Nat.{min-le-left, min-le-right}
+use native.Mathlib.Omega.{arith}
+use lib.ListN.{length, take, drop, getD, replicate, length-append, length-drop, List·getD-append}
+use lib.Seq.{length-take-le, take-append-le}
+use Rattle.faults.specs.Limits.{maxNodes, maxRegisters}
+use Rattle.table.specs.declared.Dest.{Dest}
+use Rattle.table.specs.declared.Dest.the-variants as D
+use Rattle.table.specs.Table.{nodeCount, tempBase, checkOf}
+use Rattle.table.specs.Tree.{Tree, tree, size}
+use Rattle.table.proofs.Whole.{accepted as accepted-table, dest-below}
+use Rattle.value.specs.Value.{kindOf, payloadOf}
+use Rattle.compile.specs.declared.buffers.Compiled.{Compiled}
+use Rattle.compile.specs.declared.buffers.Compiled.the-variants.{Done}
+use Rattle.emit.specs.declared.state.St.{St}
+use Rattle.emit.specs.declared.state.Dst.{Dst}
+use Rattle.emit.specs.declared.state.Dst.the-variants.{Any, To}
+use Rattle.emit.specs.declared.state.Ans.{Ans}
+use Rattle.emit.specs.declared.state.Ans.the-variants.{Got, No}
+use Rattle.emit.specs.State.{Res, done, fail, State}
+use Rattle.emit.specs.Read.{Bufs, bufs, stOf, constAt, read, Fit, Says}
+use Rattle.codegen.specs.Gen.{gen}
+use Rattle.compile.specs.Compile.{start, dstOf, rootD, generated, accepted, compileOf, Root, IsRegister}
+use Rattle.compile.specs.Buffers.{padded, zeroed, Made, Compiles}
+use Rattle.emit.proofs.Laws.{kept, says-by}
+use Rattle.codegen.proofs.Room.{same-room, into-same}
+
+-- ---- a checked table
+
+module _ (ws : List ℕ) (params locals : ℕ) where
+  pub checked-root : (dest : Dest) → checkOf ws params locals dest ≡ 0 → Root ws
+  checked-root dest h = let a = accepted-table ws params locals dest h in record { base = params + locals; node = a .root; low = a .layout }
+
+  pub checked-layout : (dest : Dest) → checkOf ws params locals dest ≡ 0 → params + locals ≤ maxRegisters
+  checked-layout dest h = accepted-table ws params locals dest h .layout
+
+  pub checked-dest : (dest : Dest) → checkOf ws params locals dest ≡ 0 → IsRegister dest
+  checked-dest D.None h = tt
+  checked-dest (D.Reg r) h = let a = accepted-table ws params locals (D.Reg r) h .layout in let b = dest-below ws params locals r h in omega arith
+
+pub ruleset checked = (checked-root, checked-layout, checked-dest)
+
+-- ---- the slots are the front of the payloads
+
+pub smaller-right : {n : ℕ} (a b : ℕ) → n ≡ min a b → n ≤ b
+smaller-right a b e = rw e (min-le-right a b)
+
+pub smaller-left : {n : ℕ} (a b : ℕ) → n ≡ min a b → n ≤ a
+smaller-left a b e = rw e (min-le-left a b)
+
+module _ (n : ℕ) (p m : List ℕ) (l : length m ≡ length (take n p)) (h : n ≤ length p) where
+  pub front-length : length m ≡ n
+  front-length = l ∙ length-take-le n p h
+
+  pub back-length : length (m ++ drop n p) ≡ length p
+  back-length =
+      let a = front-length in
+      let b : length (drop n p) ≡ length p - n = length-drop n p in
+      length-append m (drop n p) ∙ (let z : length m + length (drop n p) ≡ length p = omega arith in z)
+
+module _ {t c m : List ℕ} (rest : List ℕ) {s : St} (f : Fit (bufs t c m) s) where
+  fit-more : Fit (bufs t c (m ++ rest)) s
+  fit-more =
+      let a = f .consts in
+      let b = length-append m rest in
+      record { words = f .words; consts = omega arith; named = λ k h. rw (List·getD-append m rest 0 k (omega arith)) (f .named k h) }
+
+  same-slots : take (s .slots) (m ++ rest) ≡ take (s .slots) m
+  same-slots = take-append-le (s .slots) m rest (f .consts)
+
+pub made : (kinds p : List ℕ) (n : ℕ) {t c m : List ℕ} {s : St} → Fit (bufs t c m) s → length m ≡ length (take n p) → n ≡ min (length kinds) (length p) → Made t c kinds (m ++ drop n p) s
+made kinds p n {m = m} f l e =
+    let a = f .consts in
+    let b = front-length n p m l (smaller-right (length kinds) (length p) e) in
+    let d = smaller-left (length kinds) (length p) e in
+    record { fit = fit-more (drop n p) f; room = omega arith }
+
+-- ---- what is left behind is what the definition says
+
+pub lengths : {q : Compiled} {g : Res (ℕ × State)} {c k p : List ℕ} {lc lc' lk lp lp' : ℕ} → lc ≡ lc' → lp ≡ lp' → Compiles q g c k p lc lk lp → Compiles q g c k p lc' lk lp'
+lengths {q} {g} {c} {k} {p} {lc} {lc'} {lk} {lp} {lp'} e i h =
+    subst (λ (x : ℕ). Compiles q g c k p lc' lk x) i (subst (λ (x : ℕ). Compiles q g c k p x lk lp) e h)
+
+module _ {t c m : List ℕ} {x : Ans} {g : Res (ℕ × State)} (says : Says (bufs t c m) x g) {q : Compiled} {c2 k2 p2 : List ℕ} {lc lk lp : ℕ} where
+  pub generated-done : (rest : List ℕ) {r : ℕ} {s : St} → x ≡ Got r s → Compiles q (done (r, stOf (bufs t c (m ++ rest)) s)) c2 k2 p2 lc lk lp → Compiles q g c2 k2 p2 lc lk lp
+  generated-done rest {r} {s} e h =
+      let w = same-slots rest (kept e says) in
+      let d : Compiles q (done (r, stOf (bufs t c m) s)) c2 k2 p2 lc lk lp = record {
+        answer = subst (λ (z : List ℕ). q ≡ Done (length (take (s .count) c)) (length (map (constAt t) z)) r (s .frame)) w (h .answer);
+        words = h .words;
+        slotKinds = subst (λ (z : List ℕ). k2 ≡ padded (map kindOf (map (constAt t) z)) lk) w (h .slotKinds);
+        slotPayloads = subst (λ (z : List ℕ). p2 ≡ padded (map payloadOf (map (constAt t) z)) lp) w (h .slotPayloads);
+      } in
+      subst (λ (y : Res (ℕ × State)). Compiles q y c2 k2 p2 lc lk lp) (ap (read (bufs t c m)) (sym e) ∙ says .same) d
+
+  pub generated-refused : {n : ℕ} → x ≡ No n → Compiles q (fail n) c2 k2 p2 lc lk lp → Compiles q g c2 k2 p2 lc lk lp
+  generated-refused e h = subst (λ (y : Res (ℕ × State)). Compiles q y c2 k2 p2 lc lk lp) (ap (read (bufs t c m)) (sym e) ∙ says .same) h
+
+-- the root's answer is the definition's
+pub root-generated : (tr : Tree) (dest : Dest) (base room cap : ℕ) {slotCap n b : ℕ} {dst : Dst} → dst ≡ dstOf dest → b ≡ tempBase base → n ≡ slotCap →
+    rootD (gen tr .value) dst room (start cap n b) ≡ generated tr dest base room cap slotCap
+unfolding generated
+root-generated tr dest base room cap {slotCap} {n} {b} e i l =
+    ap (λ (d : Dst). rootD (gen tr .value) d room (start cap n b)) e
+    ∙ ap (λ (x : ℕ). rootD (gen tr .value) (dstOf dest) room (start cap n x)) i
+    ∙ ap (λ (x : ℕ). rootD (gen tr .value) (dstOf dest) room (start cap x (tempBase base))) l
+
+-- ---- a jump list that does not run out
+
+same-generated : (tr : Tree) (dest : Dest) (base r r' cap slotCap : ℕ) → size tr ≤ 2 * r → size tr ≤ 2 * r' → generated tr dest base r cap slotCap ≡ generated tr dest base r' cap slotCap
+unfolding generated rootD
+same-generated tr D.None base r r' cap slotCap h k = same-room tr r r' h k .value Any (start cap slotCap (tempBase base))
+same-generated tr (D.Reg d) base r r' cap slotCap h k =
+    into-same (gen tr .value) d r r' (start cap slotCap (tempBase base)) (same-room tr r r' h k .value (To d) (start cap slotCap (tempBase base)))
+
+-- with room for half the nodes
+pub enough : (ws : List ℕ) (params locals : ℕ) (dest : Dest) (room cap slotCap : ℕ) → checkOf ws params locals dest ≡ 0 → nodeCount ws ≤ 2 * room →
+    generated (tree ws (nodeCount ws - 1)) dest (params + locals) room cap slotCap ≡ generated (tree ws (nodeCount ws - 1)) dest (params + locals) maxNodes cap slotCap
+enough ws params locals dest room cap slotCap h n =
+    let a = accepted-table ws params locals dest h in
+    let w = a .whole in
+    let f = a .few in
+    same-generated (tree ws (nodeCount ws - 1)) dest (params + locals) room maxNodes cap slotCap (omega arith) (omega arith)
+
+-- ---- the check first
+
+module _ (ws : List ℕ) (params locals : ℕ) (dest : Dest) (room cap slotCap : ℕ) {f : ℕ} (check : f ≡ checkOf ws params locals dest) where
+  pub check-refused : (f ≡ 0 → ⊥) → fail f ≡ compileOf ws params locals dest room cap slotCap
+  unfolding compileOf
+  check-refused h = by f h ∙ ap (λ (n : ℕ). accepted n (generated (tree ws (nodeCount ws - 1)) dest (params + locals) room cap slotCap)) check
+    where
+      by : (n : ℕ) → (n ≡ 0 → ⊥) → fail n ≡ accepted n (generated (tree ws (nodeCount ws - 1)) dest (params + locals) room cap slotCap)
+      by zero k = absurd (k refl)
+      by (suc n) k = refl
+
+  pub check-passed : f ≡ 0 → generated (tree ws (nodeCount ws - 1)) dest (params + locals) room cap slotCap ≡ compileOf ws params locals dest room cap slotCap
+  unfolding compileOf
+  check-passed h = ap (λ (n : ℕ). accepted n (generated (tree ws (nodeCount ws - 1)) dest (params + locals) room cap slotCap)) (sym h ∙ check)
+
+pub compiles-by : {q : Compiled} {g g' : Res (ℕ × State)} {c k p : List ℕ} {lc lk lp : ℕ} → g ≡ g' → Compiles q g c k p lc lk lp → Compiles q g' c k p lc lk lp
+compiles-by {q} {c = c} {k = k} {p = p} {lc = lc} {lk = lk} {lp = lp} e h = subst (λ (y : Res (ℕ × State)). Compiles q y c k p lc lk lp) e h
+
+-- the ways out of an entry, each as the definition says: refused by the check, or with what is generated
+module _ (ws : List ℕ) (params locals : ℕ) (dest : Dest) {f : ℕ} (check : f ≡ checkOf ws params locals dest) (cap slotCap : ℕ) {lc lk lp : ℕ} {q : Compiled} {c k p : List ℕ} where
+  pub out-refused : (room : ℕ) → (f ≡ 0 → ⊥) → Compiles q (fail f) c k p lc lk lp → Compiles q (compileOf ws params locals dest room cap slotCap) c k p lc lk lp
+  out-refused room h = compiles-by (check-refused ws params locals dest room cap slotCap check h)
+
+  pub out-passed : (room : ℕ) → f ≡ 0 → Compiles q (generated (tree ws (nodeCount ws - 1)) dest (params + locals) room cap slotCap) c k p lc lk lp → Compiles q (compileOf ws params locals dest room cap slotCap) c k p lc lk lp
+  out-passed room h = compiles-by (check-passed ws params locals dest room cap slotCap check h)
+
+  -- a list that comes with the entry does not run out
+  pub out-roomy : (places : ℕ) → f ≡ 0 → nodeCount ws ≤ 2 * places → Compiles q (generated (tree ws (nodeCount ws - 1)) dest (params + locals) places cap slotCap) c k p lc lk lp →
+      Compiles q (compileOf ws params locals dest maxNodes cap slotCap) c k p lc lk lp
+  out-roomy places h few m =
+      compiles-by (enough ws params locals dest places cap slotCap (sym check ∙ h) few ∙ check-passed ws params locals dest maxNodes cap slotCap check h) m
+
+  pub out-all : (places : ℕ) → f ≡ 0 → maxNodes ≤ 2 * places → Compiles q (generated (tree ws (nodeCount ws - 1)) dest (params + locals) places cap slotCap) c k p lc lk lp →
+      Compiles q (compileOf ws params locals dest maxNodes cap slotCap) c k p lc lk lp
+  out-all places h all = let a = accepted-table ws params locals dest (sym check ∙ h) .few in out-roomy places h (omega arith)
+
+pub ruleset outs = (out-refused, out-passed)
+
+-- zeros from the first place on
+pub all-zeroed : (l : List ℕ) {now : List ℕ} {n : ℕ} → now ≡ zeroed 0 l → length l ≡ n → now ≡ replicate {A = ℕ} n 0
+all-zeroed l {now} {n} e h =
+    let z : length l - 0 ≡ n = omega arith in
+    e ∙ ap (λ (k : ℕ). replicate {A = ℕ} k 0) z

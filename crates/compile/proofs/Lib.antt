@@ -1,0 +1,4 @@
+-- The laws that the proofs of compile cite.
+pub mod Parts
+pub mod Roots
+pub mod Entries

@@ -1,0 +1,4 @@
+-- What the contracts of `compile` cite.
+pub mod Gen
+pub mod Compile
+pub mod Buffers

@@ -1,0 +1,93 @@
+// What compiling answers, and what it leaves in the lent buffers: the constants in their slots, and zeros after what was made.
+use emit::state::St;
+ghost use mathlib.Core.Path.{_≡_};
+ghost use Prim.Native.Nat.{_<_, _≤_};
+ghost use lib.ListN.{length};
+ghost use Rattle.table.specs.Table.{nodeCount};
+ghost use Rattle.emit.specs.State.{done, fail};
+ghost use Rattle.emit.specs.Read.{bufs, stOf};
+ghost use Rattle.compile.specs.Buffers.{zeroed, slotKind, Named, Filled, Made, Compiles};
+
+// What compiling answers: how many words and constants, the register that holds the value and the frame's size; or the number of a refusal.
+pub enum Compiled {
+    Done(usize, usize, u16, u16),
+    Refused(u8),
+}
+
+pub fn zero_from(a: &mut [u64], from: usize)
+    requires { ⌜ from ≤ length (now a) ⌝ }
+    ensures { λ _. ⌜ now (a .exit) ≡ zeroed from (now (a .entry)) ⌝ }
+{
+    let mut k = from;
+    while k < a.len() {
+        a[k] = 0;
+        k += 1;
+    }
+}
+
+fn zero_kinds(a: &mut [u8], from: usize)
+    requires { ⌜ from ≤ length (now a) ⌝ }
+    ensures { λ _. ⌜ now (a .exit) ≡ zeroed from (now (a .entry)) ⌝ }
+{
+    let mut k = from;
+    while k < a.len() {
+        a[k] = 0;
+        k += 1;
+    }
+}
+
+// The kind of the constant of the literal at node j: an Int is kind 2, a Float kind 3.
+fn slot_kind(nodes: &[u64], j: usize) -> u8
+    requires { ⌜ j < nodeCount (now nodes) ⌝ }
+    ensures { λ r. ⌜ r ≡ slotKind (now (nodes .entry)) j ⌝ }
+{
+    if table::kind_at(nodes, j) == table::INT {
+        return 2;
+    }
+    3
+}
+
+// The constants of the nodes whose numbers stand in the payloads.
+fn fill_slots(nodes: &[u64], kinds: &mut [u8], payloads: &mut [u64], n: usize)
+    requires { ⌜ Named (now nodes) (now kinds) (now payloads) n ⌝ }
+    ensures { λ _. ⌜ Filled (now (nodes .entry)) (now (payloads .entry)) (now (kinds .exit)) (now (payloads .exit)) n ⌝ }
+{
+    let mut k = 0;
+    while k < n {
+        let j = payloads[k] as usize;
+        kinds[k] = slot_kind(nodes, j);
+        payloads[k] = table::payload_at(nodes, j);
+        k += 1;
+    }
+}
+
+// The words and constants are made: the slots get their constants, and what follows is zeroed.
+pub fn finish(
+    nodes: &[u64],
+    code: &mut [u64],
+    kinds: &mut [u8],
+    payloads: &mut [u64],
+    r: u16,
+    s: St,
+) -> Compiled
+    requires { ⌜ Made (now nodes) (now code) (now kinds) (now payloads) s ⌝ }
+    ensures { λ q. ⌜ Compiles q (done (r, stOf (bufs (now (nodes .entry)) (now (code .entry)) (now (payloads .entry))) s)) (now (code .exit)) (now (kinds .exit)) (now (payloads .exit)) (length (now (code .entry))) (length (now (kinds .entry))) (length (now (payloads .entry))) ⌝ }
+{
+    let w = s.count;
+    let k = s.slots;
+    fill_slots(nodes, kinds, payloads, k);
+    zero_from(code, w);
+    zero_kinds(kinds, k);
+    zero_from(payloads, k);
+    Compiled::Done(w, k, r, s.frame)
+}
+
+// A refusal leaves nothing behind. Public for entries that refuse before they compile.
+pub fn refuse(f: u8, code: &mut [u64], kinds: &mut [u8], payloads: &mut [u64]) -> Compiled
+    ensures { λ q. ⌜ Compiles q (fail f) (now (code .exit)) (now (kinds .exit)) (now (payloads .exit)) (length (now (code .entry))) (length (now (kinds .entry))) (length (now (payloads .entry))) ⌝ }
+{
+    zero_from(code, 0);
+    zero_kinds(kinds, 0);
+    zero_from(payloads, 0);
+    Compiled::Refused(f)
+}

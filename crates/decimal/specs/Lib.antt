@@ -1,2 +1,0 @@
--- What the contracts of `decimal` cite.
-pub mod Real

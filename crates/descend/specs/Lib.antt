@@ -1,2 +1,0 @@
--- What the contracts of `descend` cite.
-pub mod Descend

@@ -1,2 +1,0 @@
--- What the contracts of `exact` cite.
-pub mod Exact

@@ -1,2 +1,0 @@
--- What the contract of `float_order` cites.
-pub mod FloatOrder

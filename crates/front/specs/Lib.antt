@@ -1,2 +1,0 @@
--- What the contracts over the front of lent words cite.
-pub mod Front

@@ -1,2 +1,0 @@
--- The rules of document 01, over the tree.
-pub mod Gen

@@ -1,1 +1,0 @@
-// The definition of the rules, and laws of it alone: no code.

@@ -1,2 +1,0 @@
--- What the contracts of `got` cite.
-pub mod Got

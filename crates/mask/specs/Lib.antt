@@ -1,2 +1,0 @@
--- What the contract of `mask` cites.
-pub mod Mask

@@ -1,2 +1,0 @@
--- What the contracts of `negate` cite.
-pub mod Negate

@@ -1,2 +1,0 @@
--- What the contracts of `numeral` cite.
-pub mod Number

@@ -1,0 +1,3 @@
+-- The laws that the proofs of `encode` cite, and the round trip.
+pub mod Laws
+pub mod RoundTrip

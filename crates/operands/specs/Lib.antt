@@ -1,0 +1,3 @@
+-- What the contracts of `operands` cite.
+pub mod OfOp
+pub mod Encode

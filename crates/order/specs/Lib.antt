@@ -1,2 +1,0 @@
--- What the contract of `order` cites.
-pub mod Order

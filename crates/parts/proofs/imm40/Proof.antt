@@ -1,8 +1,0 @@
--- `imm40` is the pattern of a raw immediate. Assumes nothing.
-use borrow.Author.Needs.{needs}
-use Rattle.parts.proofs.Laws.{pattern-64}
-use Rattle.parts.proofs.imm40.Statement.{statement}
-use Rattle.parts.proofs.imm40.Tie as tie
-
-pub imm40-spec : {M : Type 1} → statement M
-imm40-spec = tie.close (tie.spec (λ c κs. search needs) (λ c. search (pattern-64, needs)))

@@ -1,2 +1,0 @@
--- What the contracts of an instruction's numbers cite.
-pub mod Parts

@@ -1,3 +1,0 @@
--- What the contracts of patching cite.
-pub mod Field
-pub mod Patch

@@ -1,0 +1,2 @@
+-- The laws that the proofs of `run` cite.
+pub mod NextLaws

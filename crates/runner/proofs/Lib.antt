@@ -1,2 +1,0 @@
--- The laws that the proofs of `runner` cite.
-pub mod NextLaws

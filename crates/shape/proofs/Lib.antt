@@ -1,2 +1,0 @@
--- The laws that the proofs of `shape` cite.
-pub mod Shapes

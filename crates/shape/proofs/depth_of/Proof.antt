@@ -1,7 +1,0 @@
--- `shape::depth_of` meets its contract: each return is a law of the span. Assumes nothing.
-use Rattle.shape.proofs.Shapes.{spans}
-use Rattle.shape.proofs.depth_of.Statement.{statement}
-use Rattle.shape.proofs.depth_of.Tie as tie
-
-pub depth-of-spec : {M : Type 1} → statement M
-depth-of-spec = tie.close (tie.spec (λ c. search spans) (λ c. search spans) (λ c. search spans) (λ c. search spans) (λ c. search spans))

@@ -1,7 +1,0 @@
--- `shape::first_of` meets its contract: each return is a law of the span. Assumes nothing.
-use Rattle.shape.proofs.Shapes.{spans}
-use Rattle.shape.proofs.first_of.Statement.{statement}
-use Rattle.shape.proofs.first_of.Tie as tie
-
-pub first-of-spec : {M : Type 1} → statement M
-first-of-spec = tie.close (tie.spec (λ c. search spans) (λ c. search spans) (λ c. search spans) (λ c. search spans))

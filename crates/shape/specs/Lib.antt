@@ -1,2 +1,0 @@
--- What the contracts of `shape` cite.
-pub mod Shape

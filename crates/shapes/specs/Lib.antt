@@ -1,2 +1,0 @@
--- What the contracts of a form's fields cite.
-pub mod Shapes

@@ -1,2 +1,0 @@
--- What the contracts of `sign` cite.
-pub mod Sign

@@ -1,0 +1,13 @@
+-- `check::node_fault` meets its contract: a chain of calls, of which the first fault counts. Assumes nothing.
+use borrow.Author.Needs.{needs}
+use Rattle.table.proofs.Nodes.{node-faults}
+use Rattle.table.proofs.check.node_fault.Statement.{statement}
+use Rattle.table.proofs.check.node_fault.Tie as tie
+
+pub node-fault-spec : {M : Type 1} → statement M
+node-fault-spec =
+    tie.close
+    (tie.spec
+    (λ c κs. search needs) (λ c κs. search needs) (λ c κs. search needs) (λ c κs. search needs) (λ c. search node-faults)
+    (λ c κs. search needs) (λ c κs. search needs) (λ c κs. search needs) (λ c κs. search needs) (λ c. search node-faults)
+    (λ c κs. search needs) (λ c. search node-faults))
