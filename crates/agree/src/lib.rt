@@ -10,7 +10,7 @@ use table::Dest;
 use value::answer::Answer;
 ghost use Prim.Native.Nat.{_<_, _^_};
 ghost use lib.ListN.{length};
-ghost use Rattle.ops.specs.Ops.{resultOf};
+ghost use Rattle.value.specs.Answer.{resultOf};
 ghost use Rattle.machine.specs.Run.{out};
 ghost use Rattle.claim.specs.Claim.{Whole, Wide};
 

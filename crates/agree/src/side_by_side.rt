@@ -3,7 +3,7 @@ use eval::evaluate;
 use machine::run::Ran;
 use run::run;
 use value::answer::Answer;
-ghost use Rattle.ops.specs.Ops.{resultOf};
+ghost use Rattle.value.specs.Answer.{resultOf};
 ghost use Rattle.machine.specs.Run.{out};
 ghost use Rattle.claim.specs.Claim.{Promised};
 

@@ -12,7 +12,7 @@ use mir.Facts.{sfits-toZ}
 use Rattle.value.specs.Value.{Datum, kindOf, payloadOf, ofPair, datums, allWell}
 use Rattle.value.proofs.RoundTrip as Pair
 use Rattle.table.specs.Table.{kindAt, payloadAt, child1, child2, child3, depthAt}
-use Rattle.table.specs.Tree.{Tree, leaf, unary, binary, ternary, Leaf, nil, yep, nope, int, float, ref, Unary, minus, neg, Cmp, Binary, arith, cmp, and, or, Kind, leafKind, unaryKind, binaryKind, ternaryKind, noKind, kinds, build, treeAt, tree}
+use Rattle.table.specs.Tree.{Tree, leaf, unary, binary, ternary, Leaf, nil, yep, nope, int, float, ref, Unary, minus, not′, Cmp, Binary, arith, cmp, and, or, Kind, leafKind, unaryKind, binaryKind, ternaryKind, noKind, kinds, build, treeAt, tree}
 use Rattle.table.specs.Tree as Tree
 use Rattle.emit.specs.declared.state.Dst.{Dst}
 use Rattle.emit.specs.declared.state.Dst.the-variants.{Any, To}
@@ -122,7 +122,7 @@ condition-held br v a b = record { values = cond-held br a; branches = a; firsts
 
 unary-held : (o : Unary) (F : Frag) → HeldF F → HeldF (unaryN o F)
 unary-held minus F h = record { values = λ dst n ks. h .values Any n ks; branches = λ sense n ks. h .values Any n ks; firsts = h .values }
-unary-held neg F h = record { values = λ dst n ks. h .values Any n ks; branches = λ sense n ks. h .branches (not sense) n ks; firsts = h .values }
+unary-held not′ F h = record { values = λ dst n ks. h .values Any n ks; branches = λ sense n ks. h .branches (not sense) n ks; firsts = h .values }
 
 binary-held : (o : Binary) (x y : Tree) (F G : Frag) → HeldF F → HeldF G → HeldF (binaryN o x y F G)
 binary-held (arith o) x y F G h k =

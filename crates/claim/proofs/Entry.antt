@@ -10,7 +10,7 @@ use lib.Seq.{take-at, length-take-le}
 use borrow.Author.Tests.{ltb-true, ltb-false}
 use Rattle.faults.specs.Limits.{maxNodes}
 use Rattle.value.specs.Value.{kindOf, payloadOf}
-use Rattle.ops.specs.Ops.{Result}
+use Rattle.value.specs.Answer.{Result}
 use Rattle.table.specs.declared.Dest.{Dest}
 use Rattle.eval.specs.Evaluate.{evaluateOf}
 use Rattle.machine.specs.Run.{Out, out, ran}

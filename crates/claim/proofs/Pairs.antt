@@ -12,7 +12,7 @@ use mir.Facts.{fits-ofZ}
 use borrow.Author.Tests.{le-ltb, eqb-true, eqb-false}
 use Rattle.faults.specs.Numbers.{outOfRange}
 use Rattle.value.specs.Value.{Datum, nil, bool, int, float, kindOf, payloadOf, Read, well, ill, ofPair, datums}
-use Rattle.ops.specs.Ops.{is, fault}
+use Rattle.value.specs.Answer.{is, fault}
 use Rattle.value.proofs.RoundTrip.{value-back}
 use Rattle.value.proofs.RoundTrip as Pair
 use Rattle.effect.specs.Effect.{size, held, ofRead}

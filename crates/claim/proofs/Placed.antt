@@ -6,7 +6,7 @@ use Prim.Native.Nat.{ℕ, _+_, _-_, _≤_, _<_, max}
 use native.Mathlib.Omega.{arith as linear}
 use lib.IntN.{ℤ}
 use Rattle.table.specs.Table.{nodeCount, tempBase}
-use Rattle.table.specs.Tree.{Tree, leaf, unary, binary, ternary, Leaf, nil, yep, nope, int, float, ref, minus, neg, arith, cmp, and, or, tree, RefsBelow}
+use Rattle.table.specs.Tree.{Tree, leaf, unary, binary, ternary, Leaf, nil, yep, nope, int, float, ref, minus, not′, arith, cmp, and, or, tree, RefsBelow}
 use Rattle.table.specs.Tree as Tree
 use Rattle.table.specs.declared.Dest.{Dest}
 use Rattle.table.specs.declared.Dest.the-variants.{None, Reg}
@@ -44,7 +44,7 @@ tree-at (leaf (int z)) base n h up = int-at (fitsImm40 z) z n
 tree-at (leaf (float p)) base n h up = record { home-is = refl; below = omega linear }
 tree-at (leaf (ref r)) base n h up = record { home-is = refl; below = omega (linear, h) }
 tree-at (unary minus a) base n h up = record { home-is = refl; below = omega linear }
-tree-at (unary neg a) base n h up = record { home-is = refl; below = omega linear }
+tree-at (unary not′ a) base n h up = record { home-is = refl; below = omega linear }
 tree-at (binary (arith o) a b) base n h up = arith-at (foldOf o a b) (threeOf o) (frag a .value) (frag a .first) (frag b .value) n
 tree-at (binary (cmp c) a b) base n h up = record { home-is = refl; below = omega linear }
 tree-at (binary and a b) base n h up = record { home-is = refl; below = omega linear }

@@ -18,7 +18,7 @@ use Rattle.table.specs.declared.Dest.{Dest}
 use Rattle.table.specs.declared.Dest.the-variants.{None, Reg}
 use Rattle.table.proofs.Whole as Table
 use Rattle.value.specs.Value.{Datum, nil, kindOf, payloadOf, ofPair, isWell, datumOf, datums, allWell}
-use Rattle.ops.specs.Ops.{Result, is, fault}
+use Rattle.value.specs.Answer.{Result, is, fault}
 use Rattle.eval.specs.Eval.{evalOf}
 use Rattle.eval.specs.Evaluate.{localsFault, unless, evaluateOf}
 use Rattle.effect.specs.Effect as M
@@ -27,7 +27,7 @@ use Rattle.machine.specs.Datums.{valueAt}
 use Rattle.machine.specs.declared.run.Ran.{Ran}
 use Rattle.emit.specs.declared.state.Dst.the-variants.{Any, To}
 use Rattle.emit.specs.State.{Res, done, fail, State}
-use Rattle.compile.specs.Gen.{gen}
+use Rattle.codegen.specs.Gen.{gen}
 use Rattle.compile.specs.Compile.{start, dstOf, rootD, generated, accepted, compileOf}
 use Rattle.compile.specs.Buffers.{padded}
 use Rattle.claim.specs.Claim.{Accepted, Values, Slots, Lent, reportOf, kindsOf, payloadsOf, Holds, Alike, Unchanged, NotDest, Kept, InDest, Agrees, Promised, Lacks, register, slot, room}

@@ -8,7 +8,7 @@ use lib.ListN.{length, getD}
 use Rattle.faults.specs.Limits.{maxNodes}
 use Rattle.faults.specs.Numbers.{noRegister, noSlot, noRoom}
 use Rattle.value.specs.Value.{Datum, kindOf, payloadOf, allWell, datums}
-use Rattle.ops.specs.Ops.{Result, is, fault}
+use Rattle.value.specs.Answer.{Result, is, fault}
 use Rattle.table.specs.Table.{tempBase, checkOf}
 use Rattle.table.specs.Tree.{Tree, leaf, unary, binary, ternary, Leaf, nil, yep, nope, int, float, ref}
 use Rattle.table.specs.declared.Dest.{Dest}

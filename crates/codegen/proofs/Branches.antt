@@ -7,7 +7,7 @@ use native.Mathlib.Omega.{arith as numbers}
 use lib.Dec.{eqb}
 use lib.ListN.{length, take, drop}
 use Rattle.table.specs.Table.{kindAt, child1, child2, ChildIs}
-use Rattle.table.specs.Tree.{Unary, minus, neg, Cmp, Binary, arith, cmp, and, or, Tree, unary, binaryKind, kindOf, tree}
+use Rattle.table.specs.Tree.{Unary, minus, not′, Cmp, Binary, arith, cmp, and, or, Tree, unary, binaryKind, kindOf, tree}
 use Rattle.table.proofs.Trees.{View, is-leaf, is-unary, is-binary, is-ternary, UnaryAt, BinaryAt, view, unary-in, binary-in}
 use Rattle.table.proofs.Arities.{unary-code, binary-code, arith-codes, cmp-codes}
 use Rattle.insns.specs.declared.op.Cmp.{Cmp as JumpCmp}
@@ -47,7 +47,7 @@ module _ {ws c k : List ℕ} {i : ℕ} {st : St} (ready : Ready (bufs ws c k) i 
     where
       by : (o : Unary) → UnaryAt ws (ready .base) i o → branchAt ws (child1 ws i) (not sense) room start ≡ branchAt ws i sense room start
       by minus v = absurd (let u = unary-code (kindAt ws i) minus (v .kind) in omega numbers)
-      by neg v = sym (ap (ofBranch sense room start) (v .is))
+      by not′ v = sym (ap (ofBranch sense room start) (v .is))
 
   -- a branch on one value
   module _ (test : IsTest ws i) where
@@ -63,7 +63,7 @@ module _ {ws c k : List ℕ} {i : ℕ} {st : St} (ready : Ready (bufs ws c k) i 
         by : {n : ℕ} → View ws (ready .base) i n → Alone room start (tree ws i)
         by (is-leaf f v) = at (v .is) tt
         by (is-unary minus v) = at (v .is) tt
-        by (is-unary neg v) = absurd (test .0 (unary-code (kindAt ws i) neg (v .kind)))
+        by (is-unary not′ v) = absurd (test .0 (unary-code (kindAt ws i) not′ (v .kind)))
         by (is-binary (arith o) v) = at (v .is) tt
         by (is-binary (cmp o) v) = at (v .is) tt
         by (is-binary and v) = clash (binary-code (kindAt ws i) and (v .kind)) refl

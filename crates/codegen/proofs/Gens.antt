@@ -4,7 +4,7 @@ use mathlib.Core.Bool.{Bool, true, false, not}
 use mathlib.Core.List.{List}
 use Prim.Native.Nat.{ℕ}
 use native.Mathlib.Omega.{arith as numbers}
-use Rattle.table.specs.Tree.{Leaf, Unary, minus, neg, Arith, Cmp, Binary, arith, cmp, and, or, Tree, leaf, unary, binary, ternary}
+use Rattle.table.specs.Tree.{Leaf, Unary, minus, not′, Arith, Cmp, Binary, arith, cmp, and, or, Tree, leaf, unary, binary, ternary}
 use Rattle.emit.specs.declared.state.Dst.{Dst}
 use Rattle.emit.specs.declared.state.Dst.the-variants.{Any}
 use Rattle.fold.specs.declared.Tail.{Tail}
@@ -26,7 +26,7 @@ pub first-is : (t : Tree) → gen t .first ≡ gen (leftOf t) .value
 unfolding gen
 first-is (leaf l) = refl
 first-is (unary minus a) = refl
-first-is (unary neg a) = refl
+first-is (unary not′ a) = refl
 first-is (binary (arith o) a b) = refl
 first-is (binary (cmp c) a b) = refl
 first-is (binary and a b) = refl
@@ -58,7 +58,7 @@ module _ (dst : Dst) (room : ℕ) (s : State) where
     where
       into-is : {a b : Tail} → Into a ≡ Into b → b ≡ a
       into-is e = cc
-  fold-is (unary neg a) e = rw (into-is e)
+  fold-is (unary not′ a) e = rw (into-is e)
     where
       into-is : {a b : Tail} → Into a ≡ Into b → b ≡ a
       into-is e = cc
@@ -104,7 +104,7 @@ module _ (room : ℕ) (s : State) where
   abbrev pub Alone : Tree → Type 0
   Alone (leaf l) = Unit {0}
   Alone (unary minus a) = Unit {0}
-  Alone (unary neg a) = ⊥
+  Alone (unary not′ a) = ⊥
   Alone (binary (arith o) a b) = Unit {0}
   Alone (binary (cmp c) a b) = Unit {0}
   Alone (binary and a b) = ⊥
@@ -115,7 +115,7 @@ module _ (room : ℕ) (s : State) where
   unfolding gen pickOf
   pick-one (leaf l) sense al e = one-is e
   pick-one (unary minus a) sense al e = one-is e
-  pick-one (unary neg a) sense al e = absurd al
+  pick-one (unary not′ a) sense al e = absurd al
   pick-one (binary (arith o) a b) sense al e = one-is e
   pick-one (binary (cmp c) a b) sense al e = compare-one c a b (asImm16 a) (asImm16 b) sense e
   pick-one (binary and a b) sense al e = absurd al

@@ -8,7 +8,7 @@ use lib.Dec.{ltb}
 use lib.ListN.{length, length-append}
 use borrow.Author.Tests.{lt-ltb}
 use Rattle.faults.specs.Numbers.{noRoom}
-use Rattle.table.specs.Tree.{Leaf, Unary, minus, neg, Arith, Cmp, Binary, arith, cmp, and, or, Tree, leaf, unary, binary, ternary, size}
+use Rattle.table.specs.Tree.{Leaf, Unary, minus, not′, Arith, Cmp, Binary, arith, cmp, and, or, Tree, leaf, unary, binary, ternary, size}
 use Rattle.insns.specs.declared.Made.{Made}
 use Rattle.insns.specs.declared.op.Op.{Op}
 use Rattle.insns.specs.declared.op.Three.{Three}
@@ -126,7 +126,7 @@ pub few : (t : Tree) (sense : Bool) (room : ℕ) (s : State) → Given (Few (siz
 unfolding gen size
 few (leaf l) sense room s = one-few 1 (How.Bool sense) (leafV l) room s (omega numbers)
 few (unary minus a) sense room s = one-few (size a + 1) (How.Bool sense) _ room s (omega numbers)
-few (unary neg a) sense room s = more (size a) (size a + 1) (gen a .branch (not sense) room s) (omega numbers) (few a (not sense) room s)
+few (unary not′ a) sense room s = more (size a) (size a + 1) (gen a .branch (not sense) room s) (omega numbers) (few a (not sense) room s)
 few (binary (arith o) a b) sense room s = one-few (size a + size b + 1) (How.Bool sense) _ room s (omega numbers)
 few (binary (cmp c) a b) sense room s = compare-few (size a + size b + 1) c (asImm16 a) (asImm16 b) (gen a .value) (gen b .value) sense room s (omega numbers)
 few (binary and a b) sense room s = junction-few (size a) (size b) false (gen a .branch) (gen b .branch) sense room s (few a) (few b)
@@ -237,7 +237,7 @@ same-room (unary minus a) r r' h k =
     let x = same-room a r r' (omega numbers) (omega numbers) in
     let v = one-value r r' minusOne (gen a .value) (x .value) in
     record { value = v; branch = tested r r' (oneV minusOne (gen a .value)) (omega numbers) (omega numbers) v; first = x .value }
-same-room (unary neg a) r r' h k =
+same-room (unary not′ a) r r' h k =
     let x = same-room a r r' (omega numbers) (omega numbers) in
     record { value = one-value r r' Tail.Not (gen a .value) (x .value); branch = λ sense s. x .branch (not sense) s; first = x .value }
 same-room (binary (arith o) a b) r r' h k =

@@ -23,7 +23,8 @@ use Rattle.insns.specs.declared.Made.{Made}
 use Rattle.insns.specs.Insns.{madeOf}
 use Rattle.insns.specs.declared.op.Three.the-variants as Three
 use Rattle.insns.specs.declared.op.Slot.the-variants as Slot
-use Rattle.insns.specs.Fields.{twos, isRaw, rawBits, wordIf}
+use Rattle.insns.specs.Bits.{twos, isRaw}
+use Rattle.insns.specs.Fields.{rawBits, wordIf}
 use Rattle.decode.specs.Decode.{decodeOf, signed, whole, ifRaw}
 
 abbrev start : ℕ → State

@@ -223,7 +223,7 @@ module _ {ws c k : List ℕ} {i : ℕ} {st : St} (ready : Ready (bufs ws c k) i 
     where
       folds : (a : Tree) (o : Unary) → opFold (Tree.unary o a) ≡ General → 7 < kindAt ws i
       folds a Tree.minus e = absurd (let z : _≡_ {A = ℕ} 0 1 = cc in omega arith)
-      folds a Tree.neg e = absurd (let z : _≡_ {A = ℕ} 0 1 = cc in omega arith)
+      folds a Tree.not′ e = absurd (let z : _≡_ {A = ℕ} 0 1 = cc in omega arith)
 
   -- only a comparison has two operands to compare
   pub pair-kind : (sense : Bool) → pickOf (tree ws i) sense ≡ both → (17 < kindAt ws i) × (kindAt ws i ≤ 23)

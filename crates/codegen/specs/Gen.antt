@@ -4,7 +4,7 @@ use mathlib.Core.Bool.{Bool, true, false, not, cond}
 use mathlib.Core.List.{List}
 use Prim.Native.Nat.{ℕ, _-_}
 use lib.ListN.{length}
-use Rattle.table.specs.Tree.{Leaf, Unary, minus, neg, Arith, Cmp, Binary, arith, cmp, and, or, Tree, leaf, unary, binary, ternary}
+use Rattle.table.specs.Tree.{Leaf, Unary, minus, not′, Arith, Cmp, Binary, arith, cmp, and, or, Tree, leaf, unary, binary, ternary}
 use Rattle.insns.specs.declared.op.Three.{Three}
 use Rattle.insns.specs.declared.op.Cmp.{Cmp as JumpCmp}
 use Rattle.emit.specs.declared.state.Dst.{Dst}
@@ -122,7 +122,7 @@ condition br first = record { value = condV br; branch = br; first = first }
 -- one unary operator: Minus multiplies by -1; Not turns the sense of a branch round
 abbrev pub unaryG : Unary → Gen → Gen
 unaryG minus a = plain (oneV minusOne (a .value)) (a .value)
-unaryG neg a =
+unaryG not′ a =
     record { value = oneV Tail.Not (a .value); branch = λ sense. a .branch (not sense); first = a .value }
 
 abbrev pub binaryG : Binary → Tree → Tree → Gen → Gen → Gen

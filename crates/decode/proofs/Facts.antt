@@ -1,6 +1,6 @@
 -- Facts for the crates above: the operands of what decodes, and the word of what fits. Assumes nothing.
 use mathlib.Core.Path.{_≡_, refl, sym, ap, subst, _∙_}
-use mathlib.Core.Bool.{Bool, true, false}
+use mathlib.Core.Bool.{Bool, true, false, cond}
 use mathlib.Core.List.{List, [], _∷_}
 use Prim.Native.Nat.{ℕ, suc, _+_, _*_, _-_, _^_, _<_}
 use native.Mathlib.Omega.{arith}
@@ -8,7 +8,8 @@ use borrow.Author.Tests.{ltb-true}
 use lib.Dec.{ltb}
 use lib.IntN.{ℤ, pos, negsuc}
 use lib.Signed.{mag}
-use Rattle.insns.specs.Fields.{raw, pack, allFit, wordIf, pickMade, twos, isRaw, rawBits, pickNat}
+use Rattle.insns.specs.Fields.{raw, pack, allFit, wordIf, rawBits}
+use Rattle.insns.specs.Bits.{twos, isRaw}
 use Rattle.insns.specs.Insns.{opOf, formOf, fieldsOf, madeOf}
 use Rattle.insns.specs.declared.Insn.{Insn}
 use Rattle.insns.specs.declared.Made.{Made}
@@ -22,7 +23,7 @@ use Rattle.decode.proofs.RoundTrip.{head-fits, raw-fits, made-fits, mad
 -- an instruction whose operands fit has a word
 pub made-fit : (i : Op) → allFit (fieldsOf i) ≡ true → madeOf i ≡ Made.Fits (record { bits = opOf (formOf i) + 256 * pack (fieldsOf i) })
 unfolding wordIf
-made-fit i e = ap (λ (b : Bool). pickMade b (Made.Fits (record { bits = opOf (formOf i) + 256 * pack (fieldsOf i) })) Made.Refused) e
+made-fit i e = ap (λ (b : Bool). cond b (Made.Fits (record { bits = opOf (formOf i) + 256 * pack (fieldsOf i) })) Made.Refused) e
 
 -- the operands of what decodes fit
 pub decoded-fits : (w : ℕ) (i : Op) → decodeOf w ≡ Decoded.Is i → allFit (fieldsOf i) ≡ true
@@ -37,12 +38,12 @@ twos-fits : (h : ℕ) (z : ℤ) → twos h z < 2 * h → mag z < h
 unfolding twos
 twos-fits h (pos n) l = go (ltb n h) refl l
   where
-    go : (b : Bool) → ltb n h ≡ b → pickNat b n (2 * h) < 2 * h → n < h
+    go : (b : Bool) → ltb n h ≡ b → cond b n (2 * h) < 2 * h → n < h
     go true e k = ltb-true n h e
     go false e k = absurd (let q : ⊥ = omega arith in q)
 twos-fits h (negsuc n) l = go (ltb n h) refl l
   where
-    go : (b : Bool) → ltb n h ≡ b → pickNat b (2 * h - suc n) (2 * h) < 2 * h → n < h
+    go : (b : Bool) → ltb n h ≡ b → cond b (2 * h - suc n) (2 * h) < 2 * h → n < h
     go true e k = ltb-true n h e
     go false e k = absurd (let q : ⊥ = omega arith in q)
 

@@ -3,7 +3,8 @@ use mathlib.Core.Path.{_≡_, refl}
 use mathlib.Core.List.{List, [], _∷_, map}
 use Prim.Native.Nat.{ℕ}
 use lib.IntN.{pos, negsuc}
-use Rattle.insns.specs.Fields.{wordIf, twos, isRaw, rawBits}
+use Rattle.insns.specs.Fields.{wordIf, rawBits}
+use Rattle.insns.specs.Bits.{twos, isRaw}
 use Rattle.insns.specs.Insns.{madeOf}
 use Rattle.insns.specs.declared.Made.{Made}
 use Rattle.insns.specs.declared.op.Op.{Op}

@@ -1,6 +1,6 @@
 -- The bits of a field read as a signed number, and as the machine holds it. Assumes nothing.
 use mathlib.Core.Path.{_≡_, refl, sym, ap, subst, _∙_}
-use mathlib.Core.Bool.{Bool, true, false}
+use mathlib.Core.Bool.{Bool, true, false, cond}
 use Prim.Native.Nat.{ℕ, suc, _+_, _*_, _-_, _≤_, _<_, _^_}
 use native.Mathlib.Omega.{arith}
 use borrow.Author.Tests.{le-ltb, lt-ltb, ltb-true, ltb-false}
@@ -12,7 +12,7 @@ use mir.Val.{SFits, hbits, toZ, ofZ}
 use mir.Facts.{toZ-ofZ, sfits-widen}
 use mir.ValLaws.{toZ-pos, toZ-neg}
 use native.Mathlib.Nat.{lt-of-lt-of-le}
-use Rattle.decode.specs.Decode.{signed, pickInt}
+use Rattle.decode.specs.Decode.{signed}
 
 -- ---- bits read as a signed number
 
@@ -20,7 +20,7 @@ pub signed-mag : (h n : ℕ) → n < 2 * h → mag (signed h n) < h
 unfolding signed
 signed-mag h n l = go (ltb n h) refl
   where
-    go : (t : Bool) → ltb n h ≡ t → mag (pickInt t (pos n) (negsuc (2 * h - suc n))) < h
+    go : (t : Bool) → ltb n h ≡ t → mag (cond t (pos n) (negsuc (2 * h - suc n))) < h
     go true e = ltb-true n h e
     go false e = let k : h ≤ n = ltb-false n h e in omega arith
 

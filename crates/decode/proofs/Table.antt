@@ -1,10 +1,10 @@
 -- The arms of `decode`, and the test of a raw immediate. Assumes nothing.
 use mathlib.Core.Path.{_≡_, sym, ap, _∙_}
-use mathlib.Core.Bool.{Bool, true, false}
+use mathlib.Core.Bool.{Bool, true, false, cond}
 use Prim.Native.Nat.{ℕ, _/_, _%_}
 use Rattle.insns.specs.Insns.{formAt}
-use Rattle.insns.specs.Fields.{isRaw}
-use Rattle.decode.specs.Decode.{pickDecoded, ifRaw, decodeAs, decodeOf}
+use Rattle.insns.specs.Bits.{isRaw}
+use Rattle.decode.specs.Decode.{ifRaw, decodeAs, decodeOf}
 use Rattle.insns.specs.declared.op.Form.{Form}
 use Rattle.decode.specs.declared.Decoded.{Decoded}
 
@@ -17,8 +17,8 @@ arm w e k q = q ∙ ap (λ (h : Form). decodeAs h (w / 256)) (sym k ∙ e)
 module _ (n : ℕ) (d : Decoded) {r : Bool} (e : r ≡ isRaw n) where
   pub raw-so : r ≡ true → d ≡ ifRaw n d
   unfolding ifRaw
-  raw-so q = ap (λ (b : Bool). pickDecoded b d Decoded.Bad) (sym q ∙ e)
+  raw-so q = ap (λ (b : Bool). cond b d Decoded.Bad) (sym q ∙ e)
 
   pub raw-not : r ≡ false → Decoded.Bad ≡ ifRaw n d
   unfolding ifRaw
-  raw-not q = ap (λ (b : Bool). pickDecoded b d Decoded.Bad) (sym q ∙ e)
+  raw-not q = ap (λ (b : Bool). cond b d Decoded.Bad) (sym q ∙ e)

@@ -1,6 +1,6 @@
 -- Patching: a branch word gets the displacement that leads from its position to a target. Assumes nothing.
 use Prim.Native.Nat.{ℕ, _^_}
-use mathlib.Core.Bool.{Bool, true, false}
+use mathlib.Core.Bool.{Bool, true, false, cond}
 use mathlib.Core.List.{List, [], _∷_}
 use lib.Dec.{ltb}
 use lib.IntN.{ℤ, pos, negsuc, _+ℤ_}
@@ -31,13 +31,9 @@ patchedNumber Patched.TooFar = tooFar
 abbrev pub difference : ℕ → ℕ → ℤ
 difference at target = pos target +ℤ negsuc at
 
-abbrev pub pickReach : Bool → Reach → Reach → Reach
-pickReach true a b = a
-pickReach false a b = b
-
 -- the displacement from a position to a target, if 32 bits hold it; `mag z` is n for z = n and for z = -(n + 1)
 unfoldable pub reachOf : ℕ → ℕ → Reach
-reachOf at target = pickReach (ltb (mag (difference at target)) (2 ^ 31)) (Reach.By (record { by = difference at target })) Reach.Far
+reachOf at target = cond (ltb (mag (difference at target)) (2 ^ 31)) (Reach.By (record { by = difference at target })) Reach.Far
 
 -- a branch without its displacement; any other instruction is no branch
 abbrev pub branchOf : Op → Branching
@@ -104,13 +100,9 @@ putAimed Aimed.Undecoded ws at = record { answer = Patched.Undecoded; words = ws
 putAimed Aimed.NotBranch ws at = record { answer = Patched.NotBranch; words = ws }
 putAimed Aimed.TooFar ws at = record { answer = Patched.TooFar; words = ws }
 
-abbrev pub pickPatching : Bool → Patching → Patching → Patching
-pickPatching true a b = a
-pickPatching false a b = b
-
 -- the word at a position aimed at a target; where there is none, 12
 unfoldable pub patchOf : List ℕ → ℕ → ℕ → Patching
-patchOf ws at target = pickPatching (ltb at (length ws)) (putAimed (aimWord (getD ws at 0) at target) ws at) (record { answer = Patched.NoWord; words = ws })
+patchOf ws at target = cond (ltb at (length ws)) (putAimed (aimWord (getD ws at 0) at target) ws at) (record { answer = Patched.NoWord; words = ws })
 
 abbrev pub isDone : Patched → Bool
 isDone Patched.Done = true
@@ -123,4 +115,4 @@ isDone Patched.TooFar = false
 -- stay patched, it and those after it are as they were
 unfoldable pub patchAll : List ℕ → List ℕ → ℕ → Patching
 patchAll ws [] target = record { answer = Patched.Done; words = ws }
-patchAll ws (j ∷ js) target = pickPatching (isDone (patchOf ws j target .answer)) (patchAll (patchOf ws j target .words) js target) (patchOf ws j target)
+patchAll ws (j ∷ js) target = cond (isDone (patchOf ws j target .answer)) (patchAll (patchOf ws j target .words) js target) (patchOf ws j target)

@@ -18,7 +18,7 @@ use value::answer::Answer;
 use value::from_pair;
 ghost use mathlib.Core.Path.{_≡_};
 ghost use lib.IntN.{pos};
-ghost use Rattle.ops.specs.Ops.{resultOf, is};
+ghost use Rattle.value.specs.Answer.{resultOf, is};
 ghost use Rattle.effect.specs.Effect as Fx;
 ghost use Rattle.effect.specs.Effect.{asked, held};
 

@@ -1,6 +1,6 @@
 -- What a leaf has to show: an immediate, a constant and its slot, the register of a Ref. Assumes nothing.
 use mathlib.Core.Path.{_≡_, refl, sym, ap, subst, _∙_}
-use mathlib.Core.Bool.{Bool, true, false, _&&_}
+use mathlib.Core.Bool.{Bool, true, false, _&&_, cond}
 use mathlib.Core.List.{List, [], _∷_, map, map-append}
 use Prim.Native.Nat.{ℕ, suc, _+_, _*_, _<_, _≤_, _^_}
 use native.Mathlib.Decide.{decLt}
@@ -25,7 +25,7 @@ use Rattle.insns.specs.declared.Made.{Made}
 use Rattle.insns.specs.declared.Made.the-variants.{Refused}
 use Rattle.insns.specs.declared.op.Op.{Op}
 use Rattle.insns.specs.declared.op.Slot.the-variants as Slot
-use Rattle.insns.specs.Fields.{wordIf, pickMade}
+use Rattle.insns.specs.Fields.{wordIf}
 use Rattle.insns.specs.Insns.{madeOf}
 use Rattle.emit.specs.declared.state.St.{St}
 use Rattle.emit.specs.declared.state.Dst.{Dst}
@@ -44,7 +44,7 @@ pub far-slot : (d k : ℕ) → 4294967295 < k → Refused ≡ madeOf (Op.Slot Sl
 unfolding wordIf
 far-slot d k h = rw (le-ltb k (2 ^ 32) h) (go' (ltb d (2 ^ 16)) _)
   where
-    go' : (t : Bool) (w : Made) → Refused ≡ pickMade (t && false) w Refused
+    go' : (t : Bool) (w : Made) → Refused ≡ cond (t && false) w Refused
     go' true w = refl
     go' false w = refl
 

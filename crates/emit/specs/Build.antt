@@ -2,7 +2,7 @@
 use mathlib.Core.Bool.{Bool, cond}
 use Prim.Native.Nat.{ℕ, _^_}
 use lib.IntN.{pos}
-use Rattle.insns.specs.Fields.{twos}
+use Rattle.insns.specs.Bits.{twos}
 use Rattle.insns.specs.declared.op.Disp.{Disp}
 use Rattle.insns.specs.declared.op.Imm16.{Imm16}
 use Rattle.insns.specs.declared.op.Sense.{Sense}

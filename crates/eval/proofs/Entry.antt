@@ -17,7 +17,7 @@ use Rattle.table.specs.declared.Dest.the-variants.{None}
 use Rattle.table.specs.Accepted.{Accepted}
 use Rattle.table.proofs.Whole.{accepted}
 use Rattle.value.specs.Value.{allWell, datums}
-use Rattle.ops.specs.Ops.{Result, fault as faulted}
+use Rattle.value.specs.Answer.{Result, fault as faulted}
 use Rattle.eval.specs.Eval.{evalOf}
 use Rattle.eval.specs.Evaluate.{localsFault, unless, evaluateOf}
 use Rattle.eval.specs.Steps.{Lends}

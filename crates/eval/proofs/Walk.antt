@@ -15,8 +15,11 @@ use Rattle.table.proofs.Nodes.{ok}
 use Rattle.table.proofs.Trees.{UnaryAt, BinaryAt, TernaryAt, View, is-leaf, is-unary, is-binary, is-ternary, view, leaf-in}
 use Rattle.value.specs.Value.{Datum, bool, datums}
 use Rattle.ops.specs.Ops as Ops
-use Rattle.ops.specs.Ops.{Result, is, fault}
-use Rattle.eval.specs.Eval.{leafOf, unaryOf, arithOf, cmpOf, on, both, whether, test, binaryOf, evalOf}
+use Rattle.ops.specs.Arith as OpsArith
+use Rattle.ops.specs.Not as Not
+use Rattle.value.specs.Answer.{Result, is, fault}
+use Rattle.eval.specs.Eval.{leafOf, unaryOf, arithOf, cmpOf, binaryOf, evalOf}
+use Rattle.eval.specs.Apply.{on, both, whether, test}
 use Rattle.eval.specs.Next.{Ruled, truthOf, ruleOf, firstOf, afterOf, chosenOf, nextOf}
 use Rattle.eval.specs.Steps.{leaves, aloneOf, joinedOf}
 use Rattle.eval.specs.declared.next.Next.{Next}
@@ -65,10 +68,10 @@ cmp-is T.le = refl
 cmp-is T.gt = refl
 cmp-is T.ge = refl
 
-pub unary-is : (o : Unary) → cond (eqb (unaryCode o) 6) Ops.minusOf Ops.notOf ≡ unaryOf o
+pub unary-is : (o : Unary) → cond (eqb (unaryCode o) 6) OpsArith.minusOf Not.notOf ≡ unaryOf o
 unfolding unaryOf
 unary-is T.minus = refl
-unary-is T.neg = refl
+unary-is T.not′ = refl
 
 -- ---- one node with children, over answers alone: x is the first child's, and `e j` that of the child j
 

@@ -7,8 +7,11 @@ use lib.ListN.{getD}
 use Rattle.table.specs.Tree as T
 use Rattle.table.specs.Tree.{Leaf, Unary, Arith, Cmp, Binary, Tree}
 use Rattle.value.specs.Value.{Datum, nil, bool, int, float}
-use Rattle.ops.specs.Ops.{Result, is, minusOf, notOf, andOf, orOf, xorOf, shlOf, shrOf, addOf, subOf, mulOf, divOf, remOf, eqOf, neOf, ltOf, leOf}
-unfoldable pub use Rattle.eval.specs.Apply.{on, both, whether, test}
+use Rattle.value.specs.Answer.{Result, is}
+use Rattle.ops.specs.Arith.{minusOf, divOf}
+use Rattle.ops.specs.Not.{notOf}
+use Rattle.ops.specs.Ops.{andOf, orOf, xorOf, shlOf, shrOf, addOf, subOf, mulOf, remOf, eqOf, neOf, ltOf, leOf}
+use Rattle.eval.specs.Apply.{on, both, whether, test}
 
 -- ---- a literal is its value, a Ref the value of its local
 
@@ -24,7 +27,7 @@ leafOf ls (T.ref r) = is (getD ls r nil)
 
 unfoldable pub unaryOf : Unary → Datum → Result
 unaryOf T.minus = minusOf
-unaryOf T.neg = notOf
+unaryOf T.not′ = notOf
 
 unfoldable pub arithOf : Arith → Datum → Datum → Result
 arithOf T.bitAnd = andOf

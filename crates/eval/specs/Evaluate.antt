@@ -11,7 +11,7 @@ use Rattle.table.specs.Table.{nodeCount, checkOf}
 use Rattle.table.specs.Tree.{tree}
 use Rattle.table.specs.declared.Dest.the-variants.{None}
 use Rattle.value.specs.Value.{allWell, datums}
-use Rattle.ops.specs.Ops.{Result, fault as faulted}
+use Rattle.value.specs.Answer.{Result, fault as faulted}
 use Rattle.eval.specs.Eval.{evalOf}
 
 -- the locals are lent as pairs in two lists, of which the shorter counts; only the first `base` are looked at

@@ -5,7 +5,8 @@ ghost use lib.ListN.{length, getD};
 ghost use Rattle.value.specs.Value as Vs;
 ghost use Rattle.value.specs.Value.{datums};
 ghost use Rattle.ops.specs.Ops as Ops;
-ghost use Rattle.ops.specs.Ops.{resultOf};
+ghost use Rattle.value.specs.Answer as OpsAnswer;
+ghost use Rattle.value.specs.Answer.{resultOf};
 ghost use Rattle.eval.specs.declared.next.Rule.the-variants.{Unary};
 ghost use Rattle.eval.specs.Apply.{both, test};
 ghost use Rattle.eval.specs.Steps.{Lends, pairOf, leaves, aloneOf, joinedOf};
@@ -31,7 +32,7 @@ fn pair(kind: u8, payload: u64) -> Answer
 fn local(p: u64, kinds: &[u8], payloads: &[u64]) -> Answer
     requires { ⌜ p < length (now kinds) ⌝ }
     requires { ⌜ Lends (now kinds) (now payloads) ⌝ }
-    ensures { λ r. ⌜ resultOf r ≡ Ops.is (getD (datums (now (kinds .entry)) (now (payloads .entry))) p Vs.nil) ⌝ }
+    ensures { λ r. ⌜ resultOf r ≡ OpsAnswer.is (getD (datums (now (kinds .entry)) (now (payloads .entry))) p Vs.nil) ⌝ }
 {
     pair(kinds[p as usize], payloads[p as usize])
 }
@@ -41,7 +42,7 @@ pub fn leaf(k: u64, p: u64, kinds: &[u8], payloads: &[u64]) -> Answer
     requires { ⌜ k ≤ 5 ⌝ }
     requires { ⌜ (k ≡ 5 → p < length (now kinds)) ⌝ }
     requires { ⌜ Lends (now kinds) (now payloads) ⌝ }
-    ensures { λ r. ⌜ resultOf r ≡ getD (leaves (datums (now (kinds .entry)) (now (payloads .entry))) p) k (Ops.fault 0) ⌝ }
+    ensures { λ r. ⌜ resultOf r ≡ getD (leaves (datums (now (kinds .entry)) (now (payloads .entry))) p) k (OpsAnswer.fault 0) ⌝ }
 {
     match k {
         table::NIL => Answer::Is(Value::Nil),

@@ -9,8 +9,7 @@ use Rattle.float.specs.declared.Op.{Op}
 use Rattle.float.specs.declared.Op.the-variants.{Add, Sub, Mul, Div}
 use Rattle.float.specs.declared.Whole.{Whole}
 use Rattle.float.specs.declared.Whole.the-variants.{Is, Wide}
-pub use Rattle.float.specs.Bits.{Real, nan, inf, fin, infinity, quiet, units}
-unfoldable pub use Rattle.float.specs.Bits.{read}
+use Rattle.float.specs.Bits.{Real, nan, inf, fin, infinity, quiet, units}
 
 -- ---- rounding
 

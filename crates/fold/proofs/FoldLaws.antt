@@ -11,7 +11,7 @@ use borrow.Author.Tests.{eqb-true, eqb-false}
 use mir.Syntax.{w64}
 use mir.Val.{toZ, ofZ}
 use Rattle.table.specs.Table.{kindAt, child1, child2, Node, Child, Inner, ChildIs}
-use Rattle.table.specs.Tree.{Unary, minus, neg, Arith, bitAnd, bitOr, bitXor, lshift, rshift, add, sub, mul, div, mod′, Binary, arith, cmp, and, or, Tree, unary, binaryKind, kindOf, tree, arithCode, binaryCode}
+use Rattle.table.specs.Tree.{Unary, minus, not′, Arith, bitAnd, bitOr, bitXor, lshift, rshift, add, sub, mul, div, mod′, Binary, arith, cmp, and, or, Tree, unary, binaryKind, kindOf, tree, arithCode, binaryCode}
 use Rattle.table.proofs.Arities.{binary-code, cmp-codes}
 use Rattle.table.proofs.Trees.{View, is-leaf, is-unary, is-binary, is-ternary, view, BinaryAt, unary-in, unary-at, binary-in, binary-at}
 use Rattle.insns.specs.declared.op.Arith.{Arith as ImmArith}
@@ -216,7 +216,7 @@ module _ {ws : List ℕ} {i : ℕ} (h : Operator ws i) where
     unfolding opFold kindOf
     fold-not g =
         let seven : kindAt ws i ≡ 7 = sym e ∙ g in
-        let v = unary-at ws (h .base) i (h .node) neg (rw seven) in
+        let v = unary-at ws (h .base) i (h .node) not′ (rw seven) in
         rw (v .is)
 
     module _ (n6 : k ≡ 6 → ⊥) (n7 : k ≡ 7 → ⊥) {j : ℕ} {l : Lit} (d : ChildIs ws i (child1 ws i) j) (c : l ≡ constOf (tree ws j)) where
@@ -286,7 +286,7 @@ module _ {ws : List ℕ} {i : ℕ} (h : Operator ws i) {tail : Tail} (into : opF
     where
       plain : (o : Unary) → tree ws i ≡ unary o (tree ws (child1 ws i)) → takesShift tail ≡ false
       plain minus q = let z : tail ≡ minusOne = cc (sym into ∙ ap opFold q) in rw z
-      plain neg q = let z : tail ≡ Tail.Not = cc (sym into ∙ ap opFold q) in rw z
+      plain not′ q = let z : tail ≡ Tail.Not = cc (sym into ∙ ap opFold q) in rw z
 
       go : (o : Unary) → tree ws i ≡ unary o (tree ws (child1 ws i)) → j ≡ child1 ws i → tree ws j ≡ operandOf tail (tree ws i)
       go o q p = rw (plain o q, q, p)

@@ -2,7 +2,7 @@
 use mathlib.Core.Bool.{Bool, true, false, cond}
 use Prim.Native.Nat.{ℕ}
 use lib.IntN.{ℤ, negsuc}
-use Rattle.table.specs.Tree.{minus, neg, Arith, bitAnd, bitOr, bitXor, lshift, rshift, add, sub, mul, div, mod′, Cmp, Binary, arith, cmp, and, or, Tree, leaf, unary, binary, ternary}
+use Rattle.table.specs.Tree.{minus, not′, Arith, bitAnd, bitOr, bitXor, lshift, rshift, add, sub, mul, div, mod′, Cmp, Binary, arith, cmp, and, or, Tree, leaf, unary, binary, ternary}
 use Rattle.insns.specs.declared.op.Op.{Op}
 use Rattle.insns.specs.declared.op.Two.the-variants as Two
 use Rattle.insns.specs.declared.op.Arith.{Arith as ImmArith}
@@ -101,7 +101,7 @@ tailOp (Tail.ShiftMask k lo len) d a = Op.RshiftMask d a k lo len
 unfoldable pub opFold : Tree → Fold
 opFold (leaf l) = General
 opFold (unary minus a) = Into minusOne
-opFold (unary neg a) = Into Tail.Not
+opFold (unary not′ a) = Into Tail.Not
 opFold (binary (arith o) a b) = foldOf o a b
 opFold (binary (cmp c) a b) = General
 opFold (binary and a b) = General

@@ -16,7 +16,9 @@ use Rattle.int64.specs.Sign.{bitsOf}
 use Rattle.int64.proofs.sign.Laws.{one-shifted}
 use Rattle.int64.proofs.exact.Laws.{by-positive, sign-number, sign-fits}
 use Rattle.int64.specs.Int as Int
-use Rattle.int64.specs.Int.{Outcome, number, fault, inRange, checked, exact, held, negative, withSign, bitwise, shifted, floor}
+use Rattle.int64.specs.Int.{Outcome, number, fault, checked, exact, bitwise, shifted, floor}
+use Rattle.int64.specs.Exact.{inRange, held}
+use Rattle.int64.specs.Sign.{negative, withSign}
 
 -- ---- exact results
 

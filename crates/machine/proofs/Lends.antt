@@ -11,7 +11,7 @@ use lib.Seq.{getD-set-same, getD-set-other}
 use borrow.Author.Tests.{lt-ltb, le-ltb, ltb-true, ltb-false, eqb-true, eqb-false}
 use Rattle.decode.specs.Decode.{decodeOf}
 use Rattle.value.specs.Value.{Datum, nil, kindOf, payloadOf, well, ofPair}
-use Rattle.ops.specs.Ops.{Result, is, fault}
+use Rattle.value.specs.Answer.{Result, is, fault}
 use Rattle.value.proofs.RoundTrip.{Holds, pair-back}
 use Rattle.effect.specs.Effect.{Effect, size, held, ofRead}
 use Rattle.machine.specs.Step.{Next, go, put, stop, settleOf, decodedOf, wordOf, After, after, lent, stepOf}

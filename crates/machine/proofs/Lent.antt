@@ -12,7 +12,7 @@ use borrow.Author.Tests.{lt-ltb, le-ltb, ltb-true, ltb-false}
 use Rattle.faults.specs.Numbers.{outOfRange}
 use Rattle.int64.proofs.sign.Laws.{never}
 use Rattle.value.specs.Value.{Datum, nil, Read, well, ill, ofPair, isWell, allWell, datumOf, datums}
-use Rattle.ops.specs.Ops.{Result, is, fault}
+use Rattle.value.specs.Answer.{Result, is, fault}
 use Rattle.value.proofs.PairLaws.{well-at, datums-length, datum-at}
 use Rattle.value.proofs.RoundTrip.{Holds}
 use Rattle.effect.specs.Effect.{size, held, ofRead}

@@ -12,7 +12,7 @@ use lib.Seq.{getD-set-other}
 use borrow.Author.Tests.{lt-ltb, ltb-true}
 use Rattle.faults.specs.Numbers.{outOfRange}
 use Rattle.value.specs.Value.{Datum, nil, bool, int, float, kindOf, payloadOf}
-use Rattle.ops.specs.Ops.{Result, is, fault}
+use Rattle.value.specs.Answer.{Result, is, fault}
 use Rattle.decode.specs.Decode.{decodeOf}
 use Rattle.effect.specs.Effect.{Effect, write, branch, next, halt, size, held}
 use Rattle.machine.specs.Step.{Next, go, put, stop, landAt, landOf, branchOf, putOf, settleOf, decodedOf, wordOf, After, after, lent, stepOf}

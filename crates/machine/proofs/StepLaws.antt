@@ -22,7 +22,7 @@ use Rattle.insns.specs.declared.op.Disp.{Disp}
 use Rattle.insns.specs.declared.op.Op.{Op}
 use Rattle.value.specs.Value.{nil, bool, int, float, meaning, kindOf, payloadOf}
 use Rattle.value.specs.declared.Value.the-variants as C
-use Rattle.ops.specs.Ops.{Result, is, fault, resultOf}
+use Rattle.value.specs.Answer.{Result, is, fault, resultOf}
 use Rattle.value.specs.declared.Value.{Value}
 use Rattle.value.specs.declared.answer.Answer.{Answer}
 use Rattle.value.specs.declared.answer.Answer.the-variants as A

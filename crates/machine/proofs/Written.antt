@@ -14,6 +14,7 @@ use mir.Facts.{sfits-toZ}
 use borrow.Author.Tests.{ltb-true}
 use Rattle.faults.specs.Numbers.{badShift, outOfRange, notRun}
 use Rattle.int64.specs.Int as I
+use Rattle.int64.specs.Exact as Exact
 use Rattle.int64.specs.Mask.{maskOf}
 use Rattle.int64.specs.declared.Op as IntOp
 use Rattle.int64.specs.declared.Op.the-variants as IO
@@ -32,7 +33,8 @@ use Rattle.decode.specs.declared.Decoded.{Decoded}
 use Rattle.decode.specs.Decode.{decodeOf}
 use Rattle.decode.proofs.Facts.{load-raw}
 use Rattle.value.specs.Value.{Datum, nil, bool, int, float}
-use Rattle.ops.specs.Ops.{Result, is, fault, fromInt, arithOf, wholeOf}
+use Rattle.value.specs.Answer.{Result, is, fault}
+use Rattle.ops.specs.Arith.{fromInt, arithOf, wholeOf}
 use Rattle.value.proofs.RoundTrip.{Holds}
 use Rattle.effect.specs.Effect.{Effect, write, branch, next, halt, both, literal, mask, rawOf, inverted, threeKind, arithKind, shiftKind, bareOf, twoOf, slotOf, threeOf, effectOf}
 use Rattle.machine.specs.Step.{Next, go, put, stop, landAt, landOf, branchOf, putOf, settleOf, decodedOf}
@@ -79,9 +81,9 @@ sums-imm i f (float p) z h = as-floats f (float p) (int z)
 ariths-imm : (k : Arith) (x : Result) (z : ℤ) → Held (both (arithKind k) x (literal z))
 unfolding both I.operate
 ariths-imm k (fault n) z = record { back = tt }
-ariths-imm Arith.Plus (is v) z = sums-imm IO.Add FO.Add v z (λ a. exact (I.arith B.Add a z))
-ariths-imm Arith.Minus (is v) z = sums-imm IO.Sub FO.Sub v z (λ a. exact (I.arith B.Sub a z))
-ariths-imm Arith.Times (is v) z = sums-imm IO.Mul FO.Mul v z (λ a. exact (I.arith B.Mul a z))
+ariths-imm Arith.Plus (is v) z = sums-imm IO.Add FO.Add v z (λ a. exact (Exact.arith B.Add a z))
+ariths-imm Arith.Minus (is v) z = sums-imm IO.Sub FO.Sub v z (λ a. exact (Exact.arith B.Sub a z))
+ariths-imm Arith.Times (is v) z = sums-imm IO.Mul FO.Mul v z (λ a. exact (Exact.arith B.Mul a z))
 
 -- a shift by 64 or more is a fault, and any other amount is an Int
 shl : (a : ℤ) (n : ℕ) → SFits w64 a → Held (fromInt (I.operate IO.Shl a (pos n)))

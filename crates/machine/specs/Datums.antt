@@ -6,7 +6,7 @@ use lib.Dec.{ltb}
 use lib.ListN.{length, getD, set}
 use Rattle.faults.specs.Numbers.{budgetSpent, outOfRange}
 use Rattle.value.specs.Value.{Datum, nil}
-use Rattle.ops.specs.Ops.{Result, is, fault}
+use Rattle.value.specs.Answer.{Result, is, fault}
 use Rattle.decode.specs.Decode.{decodeOf}
 use Rattle.machine.specs.Step.{Next, go, put, stop, settleOf, decodedOf}
 use Rattle.machine.specs.Run.{ran}

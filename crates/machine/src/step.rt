@@ -14,7 +14,7 @@ ghost use mathlib.Core.Path.{_≡_};
 ghost use Prim.Native.Nat.{_<_};
 ghost use lib.ListN.{length};
 ghost use Rattle.value.specs.Value.{meaning};
-ghost use Rattle.ops.specs.Ops.{resultOf};
+ghost use Rattle.value.specs.Answer.{resultOf};
 ghost use Rattle.effect.specs.Effect.{asked, size};
 ghost use Rattle.machine.specs.Step as St;
 ghost use Rattle.machine.specs.Step.{after, lent};

@@ -4,7 +4,8 @@ use Prim.Native.Nat.{ℕ, _*_, _≤_, _^_}
 use mathlib.Core.List.{List, [], _∷_}
 use mir.Syntax.{w64}
 use mir.Val.{toZ}
-use Rattle.insns.specs.Fields.{Field, make, twos, rawBits}
+use Rattle.insns.specs.Fields.{Field, make, rawBits}
+use Rattle.insns.specs.Bits.{twos}
 use Rattle.insns.specs.Insns.{formAt}
 use Rattle.insns.specs.declared.Made.{Made}
 use Rattle.insns.specs.declared.op.Form.{Form}

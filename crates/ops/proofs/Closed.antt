@@ -14,19 +14,27 @@ use mir.Facts.{fits-ofZ, sfits-toZ}
 use borrow.Author.Tests.{ltb-true}
 use Rattle.faults.specs.Numbers.{overflow, modByZero, badShift}
 use Rattle.int64.specs.Int as I
+use Rattle.int64.specs.Sign as Sign
+use Rattle.int64.specs.Exact as Exact
 use Rattle.int64.specs.declared.Op as IntOp
 use Rattle.int64.specs.declared.Op.the-variants as IO
 use Rattle.int64.specs.declared.exact.Arith.the-variants as B
 use Rattle.int64.specs.declared.order.Cmp.{Cmp}
 use Rattle.int64.specs.declared.order.Cmp.the-variants.{Eq, Ne, Lt, Le, Gt, Ge}
 use Rattle.float.specs.Float as F
-use Rattle.float.specs.Float.{Real, nan, inf, fin, infinity, quiet, signed, rounded, unlike, sum, negated}
+use Rattle.float.specs.Bits as Bits
+use Rattle.float.specs.Bits.{Real, nan, inf, fin, infinity, quiet}
+use Rattle.float.specs.Float.{signed, rounded, unlike, sum, negated}
 use Rattle.float.specs.declared.Op as FloatOp
 use Rattle.float.specs.declared.Op.the-variants as FO
 use Rattle.float.specs.declared.Whole.{Whole}
 use Rattle.float.specs.declared.Whole.the-variants.{Is, Wide}
 use Rattle.value.specs.Value.{Datum, nil, bool, int, float}
-use Rattle.ops.specs.Ops.{Result, is, fault, isNumber, ofNumbers, fromInt, converted, floats, asFloats, arithOf, minusOf, wholeOf, Standing, stands, apart, standing, judged, mixed, mirror, compareNumbers, compareOthers, compareOf, same, notOf, negate, binaryOf}
+use Rattle.value.specs.Answer.{Result, is, fault, isNumber}
+use Rattle.ops.specs.Arith.{ofNumbers, fromInt, converted, floats, asFloats, arithOf, minusOf, wholeOf}
+use Rattle.ops.specs.Compare.{Standing, stands, apart, standing, judged, mixed, mirror, compareNumbers, compareOthers, compareOf, same}
+use Rattle.ops.specs.Not.{notOf, negate}
+use Rattle.ops.specs.Ops.{binaryOf}
 use Rattle.value.proofs.RoundTrip.{Holds}
 
 abbrev pub Back : Result → Type 0
@@ -106,10 +114,10 @@ divs (fin s m) (fin t n) = either (eqb n 0) (either (eqb m 0) quiets (infinite (
 -- ---- integers, by their operator
 
 pub exact : (z : ℤ) → Held (fromInt (I.exact z))
-unfolding fromInt I.exact I.checked I.inRange
-exact z = go (I.inRange z) refl
+unfolding fromInt I.exact I.checked Exact.inRange
+exact z = go (Exact.inRange z) refl
   where
-    go : (b : Bool) → I.inRange z ≡ b → Held (fromInt (cond b (I.number z) (I.fault overflow)))
+    go : (b : Bool) → Exact.inRange z ≡ b → Held (fromInt (cond b (I.number z) (I.fault overflow)))
     go true e = record { back = record { sfits = ltb-true (mag z) (2 ^ 63) e } }
     go false e = record { back = tt }
 
@@ -131,7 +139,7 @@ unfolding fromInt I.bitwise
 bits f h a b s t = record { back = sfits-toZ {w = w64} (record { fits = h (ofZ w64 a) (ofZ w64 b) (fits-ofZ {w = w64} s .fits) (fits-ofZ {w = w64} t .fits) }) }
 
 less : (a b : ℤ) → mag (I.remainder a b) ≤ mag a
-unfolding I.remainder I.withSign I.negative
+unfolding I.remainder Sign.withSign Sign.negative
 less (pos n) b = mag-rem (pos n) b
 less (negsuc n) b = mag-rem (negsuc n) b
 
@@ -158,9 +166,9 @@ rights a b s = shifts b _ (λ k. within (I.floor a (2 ^ k)) a (floors a (2 ^ k))
 
 pub ints : (op : IntOp.Op) (a b : ℤ) → SFits w64 a → SFits w64 b → Held (fromInt (I.operate op a b))
 unfolding I.operate
-ints IO.Add a b s t = exact (I.arith B.Add a b)
-ints IO.Sub a b s t = exact (I.arith B.Sub a b)
-ints IO.Mul a b s t = exact (I.arith B.Mul a b)
+ints IO.Add a b s t = exact (Exact.arith B.Add a b)
+ints IO.Sub a b s t = exact (Exact.arith B.Sub a b)
+ints IO.Mul a b s t = exact (Exact.arith B.Mul a b)
 ints IO.And a b s t = bits bitAnd (and-lt 64) a b s t
 ints IO.Or a b s t = bits bitOr (or-lt 64) a b s t
 ints IO.Xor a b s t = bits bitXor (xor-lt 64) a b s t
@@ -179,7 +187,7 @@ operates FO.Div x y = divs x y
 
 made : (op : FloatOp.Op) (x y : Whole) → Held (floats op x y)
 unfolding floats
-made op (Is p) (Is q) = record { back = operates op (F.read p) (F.read q) }
+made op (Is p) (Is q) = record { back = operates op (Bits.read p) (Bits.read q) }
 made op (Is p) Wide = record { back = tt }
 made op Wide y = record { back = tt }
 

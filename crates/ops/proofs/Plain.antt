@@ -10,6 +10,7 @@ use mir.ValLaws.{toZ-ofZ}
 use borrow.Author.Tests.{ltb-true}
 use Rattle.faults.specs.Numbers.{overflow}
 use Rattle.int64.specs.Int as I
+use Rattle.int64.specs.Exact as Exact
 use Rattle.int64.specs.Order.{orderZ, holds}
 use Rattle.int64.specs.declared.Op as IntOp
 use Rattle.int64.specs.declared.exact.Arith.{Arith}
@@ -17,11 +18,14 @@ use Rattle.int64.specs.declared.exact.Arith.the-variants as B
 use Rattle.int64.specs.declared.order.Cmp.{Cmp}
 use Rattle.float.specs.Float as F
 use Rattle.float.specs.Order.{order}
-use Rattle.float.specs.Float.{read}
+use Rattle.float.specs.Bits.{read}
 use Rattle.float.specs.declared.Op as FloatOp
 use Rattle.float.specs.declared.Op.the-variants as FO
 use Rattle.value.specs.Value.{int, float, payloadOf}
-use Rattle.ops.specs.Ops.{is, fault, truth, isNumber, ofNumbers, fromInt, converted, floats, asFloats, arithOf, wholeOf, compareNumbers, compareOf, binaryOf}
+use Rattle.value.specs.Answer.{is, fault, truth, isNumber}
+use Rattle.ops.specs.Arith.{ofNumbers, fromInt, converted, floats, asFloats, arithOf, wholeOf}
+use Rattle.ops.specs.Compare.{compareNumbers, compareOf}
+use Rattle.ops.specs.Ops.{binaryOf}
 
 -- ---- Add, Sub, Mul, by the node kind
 
@@ -37,12 +41,12 @@ floatOp B.Mul = FO.Mul
 
 -- ---- the pattern that the code holds
 
-pub held-number : (z : ℤ) → I.inRange z ≡ true → toZ w64 (I.held z) ≡ z
-unfolding I.held I.inRange
+pub held-number : (z : ℤ) → Exact.inRange z ≡ true → toZ w64 (Exact.held z) ≡ z
+unfolding Exact.held Exact.inRange
 held-number z e = rw e (toZ-ofZ w64 z (record { sfits = ltb-true (mag z) (2 ^ 63) e }))
 
-pub held-payload : (z : ℤ) → I.inRange z ≡ true → I.held z ≡ payloadOf (int z)
-unfolding I.held
+pub held-payload : (z : ℤ) → Exact.inRange z ≡ true → Exact.held z ≡ payloadOf (int z)
+unfolding Exact.held
 held-payload z e = rw e
 
 -- ---- Add, Sub, Mul
@@ -53,20 +57,20 @@ picked true z = refl
 picked false z = refl
 
 -- two Ints: the exact Int or 21
-pub int-arith : (op : Arith) (a b : ℤ) → binaryOf (kindOf op) (int a) (int b) ≡ cond (I.inRange (I.arith op a b)) (is (int (I.arith op a b))) (fault overflow)
+pub int-arith : (op : Arith) (a b : ℤ) → binaryOf (kindOf op) (int a) (int b) ≡ cond (Exact.inRange (Exact.arith op a b)) (is (int (Exact.arith op a b))) (fault overflow)
 unfolding arithOf I.operate I.exact
-int-arith B.Add a b = picked (I.inRange (I.arith B.Add a b)) (I.arith B.Add a b)
-int-arith B.Sub a b = picked (I.inRange (I.arith B.Sub a b)) (I.arith B.Sub a b)
-int-arith B.Mul a b = picked (I.inRange (I.arith B.Mul a b)) (I.arith B.Mul a b)
+int-arith B.Add a b = picked (Exact.inRange (Exact.arith B.Add a b)) (Exact.arith B.Add a b)
+int-arith B.Sub a b = picked (Exact.inRange (Exact.arith B.Sub a b)) (Exact.arith B.Sub a b)
+int-arith B.Mul a b = picked (Exact.inRange (Exact.arith B.Mul a b)) (Exact.arith B.Mul a b)
 
 -- the same by the test of `int64::bits::fits`, t, and the pattern of `int64::bits::result`, r
-module _ (op : Arith) (p q : ℕ) {t : Bool} (e : t ≡ I.inRange (I.arith op (toZ w64 p) (toZ w64 q))) where
+module _ (op : Arith) (p q : ℕ) {t : Bool} (e : t ≡ Exact.inRange (Exact.arith op (toZ w64 p) (toZ w64 q))) where
   pub int-over : t ≡ false → binaryOf (kindOf op) (int (toZ w64 p)) (int (toZ w64 q)) ≡ fault overflow
   int-over h = int-arith op (toZ w64 p) (toZ w64 q) ∙ rw (sym e ∙ h)
 
-  pub int-fits : {r : ℕ} → r ≡ I.held (I.arith op (toZ w64 p) (toZ w64 q)) → t ≡ true → binaryOf (kindOf op) (int (toZ w64 p)) (int (toZ w64 q)) ≡ is (int (toZ w64 r))
+  pub int-fits : {r : ℕ} → r ≡ Exact.held (Exact.arith op (toZ w64 p) (toZ w64 q)) → t ≡ true → binaryOf (kindOf op) (int (toZ w64 p)) (int (toZ w64 q)) ≡ is (int (toZ w64 r))
   int-fits d h =
-      int-arith op (toZ w64 p) (toZ w64 q) ∙ rw (sym e ∙ h) (ap (λ (z : ℤ). is (int z)) (sym (ap (toZ w64) d ∙ held-number (I.arith op (toZ w64 p) (toZ w64 q)) (sym e ∙ h))))
+      int-arith op (toZ w64 p) (toZ w64 q) ∙ rw (sym e ∙ h) (ap (λ (z : ℤ). is (int z)) (sym (ap (toZ w64) d ∙ held-number (Exact.arith op (toZ w64 p) (toZ w64 q)) (sym e ∙ h))))
 
 -- two Floats
 pub float-arith : (op : Arith) (p q : ℕ) → binaryOf (kindOf op) (float p) (float q) ≡ is (float (F.operate (floatOp op) (read p) (read q)))

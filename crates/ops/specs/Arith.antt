@@ -5,7 +5,7 @@ use lib.Dec.{leb}
 use lib.IntN.{negsuc, natAbs}
 use Rattle.faults.specs.Numbers.{wrongKind, notExact}
 use Rattle.float.specs.Float as F
-use Rattle.float.specs.Float.{read}
+use Rattle.float.specs.Bits.{read}
 use Rattle.int64.specs.Int as I
 use Rattle.int64.specs.Int.{Outcome}
 use Rattle.value.specs.Value.{Datum, nil, bool, int, float}

@@ -6,7 +6,7 @@ use lib.IntN.{ℤ, natAbs}
 use Rattle.faults.specs.Numbers.{wrongKind, notExact}
 use Rattle.float.specs.Float as F
 use Rattle.float.specs.Order.{order}
-use Rattle.float.specs.Float.{read}
+use Rattle.float.specs.Bits.{read}
 use Rattle.int64.specs.Order.{Order, orderZ, holds}
 use Rattle.int64.specs.declared.order.Cmp.{Cmp}
 use Rattle.int64.specs.declared.order.Cmp.the-variants.{Eq, Ne, Lt, Le, Gt, Ge}

@@ -7,13 +7,10 @@ use Rattle.value.specs.Value.{Datum}
 use Rattle.int64.specs.declared.Op.the-variants as IO
 use Rattle.int64.specs.declared.order.Cmp.the-variants.{Eq, Ne, Lt, Le}
 use Rattle.float.specs.declared.Op.the-variants as FO
-pub use Rattle.value.specs.Answer.{Result, is, fault, resultOf, truth}
-unfoldable pub use Rattle.value.specs.Answer.{isNumber}
-pub use Rattle.ops.specs.Arith.{minusOf, divOf}
-unfoldable pub use Rattle.ops.specs.Arith.{ofNumbers, fromInt, converted, floats, asFloats, arithOf, wholeOf, operateOf}
-pub use Rattle.ops.specs.Compare.{Standing, stands, apart, mirror}
-unfoldable pub use Rattle.ops.specs.Compare.{standing, judged, mixed, compareNumbers, compareOthers, compareOf, same}
-unfoldable pub use Rattle.ops.specs.Not.{notOf, negate}
+use Rattle.value.specs.Answer.{Result, fault}
+use Rattle.ops.specs.Arith.{divOf}
+use Rattle.ops.specs.Arith.{arithOf, wholeOf}
+use Rattle.ops.specs.Compare.{compareOf}
 
 -- ---- by name, and by the node kind
 

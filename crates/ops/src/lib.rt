@@ -6,7 +6,8 @@ pub mod not;
 ghost use mathlib.Core.Path.{_≡_};
 ghost use Rattle.value.specs.Value.{meaning};
 ghost use Rattle.ops.specs.Ops as Ops;
-ghost use Rattle.ops.specs.Ops.{resultOf};
+ghost use Rattle.ops.specs.Arith as OpsArith;
+ghost use Rattle.value.specs.Answer.{resultOf};
 use crate::arith::How;
 use crate::arith::operate;
 use crate::compare::compare;
@@ -17,7 +18,7 @@ use value::answer::Answer;
 
 // Mul by Int -1.
 pub fn minus(v: Value) -> Answer
-    ensures { λ r. ⌜ resultOf r ≡ Ops.minusOf (meaning v) ⌝ }
+    ensures { λ r. ⌜ resultOf r ≡ OpsArith.minusOf (meaning v) ⌝ }
 {
     let minus_one = Value::Int(-1);
     operate(How::Arith(Op::Mul, float::Op::Mul), v, minus_one)

@@ -20,7 +20,8 @@ use Rattle.table.specs.declared.Dest.{Dest}
 use Rattle.table.specs.declared.Dest.the-variants.{None}
 use Rattle.eval.specs.Evaluate.{unless, evaluateOf}
 use Rattle.compile.specs.Compile.{accepted, compileOf}
-use Rattle.records.specs.Records.{compileNodes, flat, roomFault, holding, flattened, checkNodes, evaluateNodes}
+use Rattle.records.specs.Records.{compileNodes, flat, holding, flattened, checkNodes, evaluateNodes}
+use Rattle.records.specs.Prefix.{roomFault}
 use Rattle.records.specs.Copy.{none, orNone, copiedOf, put, filled}
 use Rattle.records.specs.Prefix.{checkFront, evaluateFront, compileFront}
 use Rattle.records.specs.declared.Node.{Node}

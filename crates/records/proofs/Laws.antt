@@ -7,7 +7,7 @@ use mathlib.Core.Bool.{Bool, true, false, cond}
 use lib.Dec.{ltb}
 use lib.ListN.{length, getD, set, length-set}
 use borrow.Author.Tests.{le-ltb, lt-ltb}
-use Rattle.records.specs.Records.{roomFault}
+use Rattle.records.specs.Prefix.{roomFault}
 use Rattle.records.specs.Copy.{none, orNone, copiedOf, put, filled}
 use Rattle.records.specs.declared.Node.{Node}
 

@@ -6,7 +6,8 @@ use Rattle.faults.specs.Faults.{fault, _or-else_}
 use Rattle.faults.specs.Numbers.{badShape, notLocal, noRoom}
 use Rattle.table.specs.Table.{arity, children, spanFault, nodeFault, nodesFault, shapeFault, layoutFault, destFault, lastFault, checkOf}
 use Rattle.table.specs.declared.Dest.the-variants.{None, Reg}
-use Rattle.records.specs.Records.{flat, roomFault, holding, flattened, checkNodes}
+use Rattle.records.specs.Records.{flat, holding, flattened, checkNodes}
+use Rattle.records.specs.Prefix.{roomFault}
 use Rattle.records.specs.declared.Node.{Node}
 
 abbrev node : ℕ → ℕ → ℕ → ℕ → Node

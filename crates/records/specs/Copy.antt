@@ -5,7 +5,7 @@ use mathlib.Core.Bool.{cond}
 use mathlib.Core.List.{List}
 use lib.Dec.{ltb}
 use lib.ListN.{length, getD, set}
-use Rattle.records.specs.Records.{roomFault}
+use Rattle.records.specs.Prefix.{roomFault}
 use Rattle.records.specs.declared.Node.{Node}
 
 abbrev pub none : Node

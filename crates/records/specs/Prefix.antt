@@ -8,7 +8,7 @@ use Rattle.faults.specs.Limits.{maxNodes}
 use Rattle.faults.specs.Numbers.{badShape, noRoom}
 use Rattle.table.specs.Table.{checkOf}
 use Rattle.table.specs.declared.Dest.{Dest}
-use Rattle.ops.specs.Ops.{Result}
+use Rattle.value.specs.Answer.{Result}
 use Rattle.eval.specs.Evaluate.{unless, evaluateOf}
 use Rattle.emit.specs.State.{Res, State}
 use Rattle.compile.specs.Compile.{accepted, compileOf}

@@ -7,11 +7,11 @@ use Rattle.faults.specs.Faults.{_or-else_}
 use Rattle.faults.specs.Limits.{maxNodes}
 use Rattle.table.specs.Table.{checkOf}
 use Rattle.table.specs.declared.Dest.{Dest}
-use Rattle.ops.specs.Ops.{Result}
+use Rattle.value.specs.Answer.{Result}
 use Rattle.eval.specs.Evaluate.{unless, evaluateOf}
 use Rattle.emit.specs.State.{Res, State}
 use Rattle.compile.specs.Compile.{accepted, compileOf}
-unfoldable pub use Rattle.records.specs.Prefix.{roomFault}
+use Rattle.records.specs.Prefix.{roomFault}
 use Rattle.records.specs.declared.Node.{Node}
 
 -- the words of a table of records: kind, payload, first, depth

@@ -4,7 +4,7 @@ mod prefix;
 
 ghost use mathlib.Core.Path.{_≡_};
 ghost use lib.ListN.{length};
-ghost use Rattle.ops.specs.Ops.{resultOf};
+ghost use Rattle.value.specs.Answer.{resultOf};
 ghost use Rattle.compile.specs.Buffers.{Compiles};
 ghost use Rattle.records.specs.Records.{flattened, checkNodes, evaluateNodes, compileNodes};
 ghost use Rattle.records.specs.Copy.{copiedOf, put};

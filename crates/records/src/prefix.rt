@@ -5,7 +5,7 @@ use table::Dest;
 use value::answer::Answer;
 ghost use mathlib.Core.Path.{_≡_};
 ghost use lib.ListN.{length};
-ghost use Rattle.ops.specs.Ops.{resultOf};
+ghost use Rattle.value.specs.Answer.{resultOf};
 ghost use Rattle.compile.specs.Buffers.{Compiles};
 ghost use Rattle.records.specs.Prefix.{roomFault, checkFront, evaluateFront, compileFront};
 

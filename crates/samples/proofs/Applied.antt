@@ -10,22 +10,29 @@ use Rattle.faults.specs.Faults as Faults
 use Rattle.table.specs.Table as Table
 use Rattle.table.specs.Tree as Tree
 use Rattle.insns.specs.Fields as Fields
+use Rattle.insns.specs.Bits as Bits
 use Rattle.decode.specs.Decode as Decode
 use Rattle.decode.specs.Patch as Patch
 use Rattle.value.specs.Value as Val
-use Rattle.ops.specs.Ops as Ops
+use Rattle.value.specs.Answer as Answer
+use Rattle.ops.specs.Arith as Arith
+use Rattle.ops.specs.Compare as Compare
+use Rattle.ops.specs.Not as Not
 use Rattle.int64.specs.Order as Order
 use Rattle.int64.specs.Int as I
+use Rattle.int64.specs.Exact as Exact
 use Rattle.float.specs.Float as F
+use Rattle.float.specs.Bits as FBits
 use Rattle.float.specs.Order.{order}
 use Rattle.eval.specs.Eval as Eval
+use Rattle.eval.specs.Apply as Apply
 use Rattle.eval.specs.Evaluate as Evaluate
 use Rattle.emit.specs.State as State
 use Rattle.emit.specs.Jump as Jump
 use Rattle.fold.specs.Fold as Fold
 use Rattle.fold.specs.Literal as Literal
 use Rattle.emit.specs.Steps as Steps
-use Rattle.compile.specs.Gen as Gen
+use Rattle.codegen.specs.Gen as Gen
 use Rattle.compile.specs.Compile as Compile
 use Rattle.effect.specs.Effect as Effect
 use Rattle.machine.specs.Step as Step
@@ -46,7 +53,7 @@ made =
     }
 
 accepted : Accepted choice 2 0 None 2 made
-unfolding Faults.fault Faults._or-else_ Table.tempBase Table.arity Table.children Table.spanFault Table.nodeFault Table.nodesFault Table.shapeFault Table.layoutFault Table.destFault Table.lastFault Table.checkOf Tree.kindOf Tree.build Tree.treeAt Tree.tree Fields.twos Fields.isRaw Fields.rawBits Fields.wordIf Decode.signed Decode.whole Decode.ifRaw Decode.decodeOf Patch.reachOf Patch.aimWord Patch.patchOf Patch.patchAll State.allocD State.destD State.slotD State.storeD Jump.patchedD Jump.leapD Literal.bits Literal.runAt Literal.runFrom Literal.bitRun Literal.litOf Fold.shiftBy Fold.shiftedBy Fold.foldBy Steps.putD Steps.constTo Steps.constD Steps.leafD Steps.putTo Steps.moveTo Jump.leapTo Jump.turnD Gen.leafV Gen.oneV Gen.twoV Gen.binaryV Gen.intoD Gen.armsD Gen.ternaryV Gen.oneB Gen.pairB Gen.compareB Gen.gen Compile.rootD Compile.generated Compile.compileOf
+unfolding Faults.fault Faults._or-else_ Table.tempBase Table.arity Table.children Table.spanFault Table.nodeFault Table.nodesFault Table.shapeFault Table.layoutFault Table.destFault Table.lastFault Table.checkOf Tree.kindOf Tree.build Tree.treeAt Tree.tree Bits.twos Bits.isRaw Fields.rawBits Fields.wordIf Decode.signed Decode.whole Decode.ifRaw Decode.decodeOf Patch.reachOf Patch.aimWord Patch.patchOf Patch.patchAll State.allocD State.destD State.slotD State.storeD Jump.patchedD Jump.leapD Literal.bits Literal.runAt Literal.runFrom Literal.bitRun Literal.litOf Fold.shiftBy Fold.shiftedBy Fold.foldBy Steps.putD Steps.constTo Steps.constD Steps.leafD Steps.putTo Steps.moveTo Jump.leapTo Jump.turnD Gen.leafV Gen.oneV Gen.twoV Gen.binaryV Gen.intoD Gen.armsD Gen.ternaryV Gen.oneB Gen.pairB Gen.compareB Gen.gen Compile.rootD Compile.generated Compile.compileOf
 accepted = record { places = 8; cap = 8; slotCap = 8; is = refl }
 
 abbrev kinds : List ℕ
@@ -72,5 +79,5 @@ lent =
     }
 
 pub applied : Ended None 2 2 made kinds payloads (Val.int (pos 2)) (Run.runOf (made .words) [] [] 4 0 kinds payloads)
-unfolding Faults.fault Faults._or-else_ Table.tempBase Table.arity Table.children Table.spanFault Table.nodeFault Table.nodesFault Table.shapeFault Table.layoutFault Table.destFault Table.lastFault Table.checkOf Tree.kindOf Tree.build Tree.treeAt Tree.tree Val.ofPair Val.allWell Val.datums Ops.isNumber Ops.ofNumbers Ops.fromInt Ops.arithOf Ops.standing Ops.judged Ops.mixed Ops.compareNumbers Ops.compareOf Ops.notOf Order.holds I.inRange I.checked I.exact I.arith I.operate F.read F.halvings F.toNearest F.rounded order F.ofInt Eval.leafOf Eval.unaryOf Eval.cmpOf Eval.on Eval.both Eval.whether Eval.binaryOf Eval.evalOf Evaluate.localsFault Evaluate.unless Evaluate.evaluateOf
+unfolding Faults.fault Faults._or-else_ Table.tempBase Table.arity Table.children Table.spanFault Table.nodeFault Table.nodesFault Table.shapeFault Table.layoutFault Table.destFault Table.lastFault Table.checkOf Tree.kindOf Tree.build Tree.treeAt Tree.tree Val.ofPair Val.allWell Val.datums Answer.isNumber Arith.ofNumbers Arith.fromInt Arith.arithOf Compare.standing Compare.judged Compare.mixed Compare.compareNumbers Compare.compareOf Not.notOf Order.holds Exact.inRange I.checked I.exact Exact.arith I.operate FBits.read F.halvings F.toNearest F.rounded order F.ofInt Eval.leafOf Eval.unaryOf Eval.cmpOf Apply.on Apply.both Apply.whether Eval.binaryOf Eval.evalOf Evaluate.localsFault Evaluate.unless Evaluate.evaluateOf
 applied = correct choice 2 0 None 2 made accepted kinds payloads [] [] 4 lent

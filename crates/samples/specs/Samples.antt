@@ -6,7 +6,7 @@ use lib.Dec.{eqb}
 use lib.ListN.{length, getD}
 use lib.IntN.{pos}
 use Rattle.value.specs.Value.{kindOf, payloadOf}
-use Rattle.ops.specs.Ops.{Result, is, fault}
+use Rattle.value.specs.Answer.{Result, is, fault}
 use Rattle.table.specs.Tree.{Tree, leaf, int, ref, binary, cmp, lt}
 use Rattle.table.specs.declared.Dest.the-variants.{None, Reg}
 use Rattle.insns.specs.declared.Made.{Made}
@@ -20,7 +20,7 @@ use Rattle.decode.specs.declared.patch.Aimed.{Aimed}
 use Rattle.decode.specs.Patch.{aimWord}
 use Rattle.eval.specs.Evaluate.{evaluateOf}
 use Rattle.emit.specs.State.{Res, done, fail, State}
-use Rattle.compile.specs.Gen.{gen}
+use Rattle.codegen.specs.Gen.{gen}
 use Rattle.compile.specs.Compile.{start, compileOf}
 use Rattle.machine.specs.Run.{Out, out, runOf}
 use Rattle.faults.specs.Numbers.{undecoded, notBranch, tooFar}

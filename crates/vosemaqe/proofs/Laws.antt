@@ -4,7 +4,7 @@ use mathlib.Core.List.{List}
 use Prim.Native.Nat.{ℕ}
 use Rattle.table.specs.declared.Dest.{Dest}
 use Rattle.table.specs.Table.{checkOf}
-use Rattle.ops.specs.Ops.{Result, resultOf}
+use Rattle.value.specs.Answer.{Result, resultOf}
 use Rattle.value.specs.declared.answer.Answer.{Answer}
 use Rattle.compile.specs.Compile as C
 use Rattle.compile.specs.Buffers as Report

@@ -5,8 +5,8 @@ use Prim.Native.Nat.{ℕ, zero, suc}
 use Rattle.table.specs.declared.Dest.{Dest}
 use Rattle.table.specs.declared.Dest.the-variants.{None, Reg}
 use Rattle.value.specs.Value.{kindOf, payloadOf}
-use Rattle.ops.specs.Ops as Ops
-use Rattle.ops.specs.Ops.{Result}
+use Rattle.value.specs.Answer as Answer
+use Rattle.value.specs.Answer.{Result}
 use Rattle.emit.specs.State.{Res, State}
 use Rattle.compile.specs.Buffers.{answered, padded, wordsOf, kindsOf, payloadsOf}
 use Rattle.compile.specs.declared.buffers.Compiled.{Compiled}
@@ -49,8 +49,8 @@ abbrev pub found : ℕ → ℕ → ℕ → Found
 found n k p = record { number = n; kind = k; payload = p }
 
 abbrev pub foundOf : Result → Found
-foundOf (Ops.is v) = found 0 (kindOf v) (payloadOf v)
-foundOf (Ops.fault n) = found n 0 0
+foundOf (Answer.is v) = found 0 (kindOf v) (payloadOf v)
+foundOf (Answer.fault n) = found n 0 0
 
 -- ---- decoding: number, opcode, five operands. Encoding: number, word
 

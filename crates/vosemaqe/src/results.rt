@@ -6,7 +6,7 @@ use insns::Made;
 use table::Dest;
 use value::answer::Answer;
 ghost use mathlib.Core.Path.{_≡_};
-ghost use Rattle.ops.specs.Ops.{resultOf};
+ghost use Rattle.value.specs.Answer.{resultOf};
 ghost use Rattle.decode.specs.Patch.{patchedNumber};
 ghost use Rattle.vosemaqe.specs.Results.{destOf, reportOf, foundOf, shownOf, coinedOf};
 

@@ -19,7 +19,7 @@ use Rattle.decode.specs.declared.patch.Branch.{Branch as Jump}
 use Rattle.decode.specs.declared.patch.Branch.the-variants.{Jmp}
 use Rattle.value.specs.Value.{Datum}
 use Rattle.value.specs.Value as Val
-use Rattle.table.specs.Tree.{Tree, leaf, unary, binary, ternary, Leaf, nil, yep, nope, int, float, ref, Unary, minus, neg, Cmp, Binary, arith, cmp, and, or, RefBelow, RefsBelow}
+use Rattle.table.specs.Tree.{Tree, leaf, unary, binary, ternary, Leaf, nil, yep, nope, int, float, ref, Unary, minus, not′, Cmp, Binary, arith, cmp, and, or, RefBelow, RefsBelow}
 use Rattle.emit.specs.declared.state.Dst.{Dst}
 use Rattle.emit.specs.declared.state.Dst.the-variants.{Any, To}
 use Rattle.fold.specs.declared.Tail.{Tail}
@@ -559,7 +559,7 @@ module _ (cap slotCap : ℕ) where
       plain-met (oneV minusOne (g .value)) (g .value) (tailF minusOne (F .value)) (F .value) x
       (less-V (oneV minusOne (g .value)) (tailF minusOne (F .value)) up (tail-met minusOne (g .value) (F .value) w (omega linear) (m .values)))
       (less-V (g .value) (F .value) up (m .values))
-  unary-met neg g F w x up m =
+  unary-met not′ g F w x up m =
       record {
         values = less-V (oneV Tail.Not (g .value)) (tailF Tail.Not (F .value)) up (tail-met Tail.Not (g .value) (F .value) w tt (m .values));
         branches = λ sense. less-T (g .branch (not sense)) (F .branch (not sense)) up (m .branches (not sense));
@@ -600,7 +600,7 @@ module _ (cap slotCap : ℕ) where
   -- the words of the operands are fewer
   unary-less : (o : Unary) (w : ℕ) → w ≤ unaryWords o w
   unary-less minus w = omega linear
-  unary-less neg w = omega linear
+  unary-less not′ w = omega linear
 
   binary-less : (o : Binary) (u w : ℕ) → u + w ≤ binaryWords o u w
   binary-less (arith o) u w = omega linear

@@ -13,7 +13,8 @@ use Rattle.insns.specs.declared.op.Op.{Op}
 use Rattle.insns.specs.declared.op.Three.{Three}
 use Rattle.insns.specs.declared.op.Imm40.{Imm40}
 use Rattle.insns.specs.declared.Made.{Made}
-use Rattle.insns.specs.Fields.{Field, twos, isRaw, rawBits, raw, pack, allFit, wordIf}
+use Rattle.insns.specs.Fields.{Field, rawBits, raw, pack, allFit, wordIf}
+use Rattle.insns.specs.Bits.{twos, isRaw}
 use Rattle.insns.specs.Insns.{opOf, formOf, fieldsOf, madeOf}
 use Rattle.decode.specs.Decode.{decodeOf}
 use Rattle.decode.specs.declared.Decoded.{Decoded}

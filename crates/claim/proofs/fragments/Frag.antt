@@ -20,7 +20,7 @@ use Rattle.decode.specs.Patch.{branchBy}
 use Rattle.decode.specs.declared.patch.Branch.{Branch}
 use Rattle.value.specs.Value.{Datum}
 use Rattle.value.specs.Value as Val
-use Rattle.table.specs.Tree.{Tree, leaf, unary, binary, ternary, Leaf, nil, yep, nope, int, float, ref, Unary, minus, neg, Cmp, Binary, arith, cmp, and, or}
+use Rattle.table.specs.Tree.{Tree, leaf, unary, binary, ternary, Leaf, nil, yep, nope, int, float, ref, Unary, minus, not′, Cmp, Binary, arith, cmp, and, or}
 use Rattle.emit.specs.declared.state.Dst.{Dst}
 use Rattle.emit.specs.declared.state.Dst.the-variants.{Any, To}
 use Rattle.fold.specs.declared.Tail.{Tail}
@@ -238,7 +238,7 @@ leafF (ref r) = refF r
 
 abbrev pub unaryN : Unary → Frag → Frag
 unaryN minus a = plainF (tailF minusOne (a .value)) (a .value)
-unaryN neg a = record { value = tailF Tail.Not (a .value); branch = λ sense. a .branch (not sense); first = a .value }
+unaryN not′ a = record { value = tailF Tail.Not (a .value); branch = λ sense. a .branch (not sense); first = a .value }
 
 abbrev pub binaryN : Binary → Tree → Tree → Frag → Frag → Frag
 binaryN (arith o) x y a b = plainF (arithF (foldOf o x y) (threeOf o) (a .value) (a .first) (b .value)) (a .value)

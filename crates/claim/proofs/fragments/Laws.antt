@@ -14,7 +14,10 @@ use mir.Val.{toZ}
 use borrow.Author.Tests.{ltb-true, eqb-true, ne-eqb, lt-ltb, leb-true}
 use Rattle.insns.specs.declared.op.Sense.the-variants as Sense
 use Rattle.value.specs.Value.{Datum, nil, bool, int, float}
-use Rattle.ops.specs.Ops.{Result, is, fault, truth as yes, isNumber, standing, Standing, stands, apart, judged, mixed, compareNumbers, compareOthers, compareOf, same, notOf, negate, eqOf, neOf, binaryOf}
+use Rattle.value.specs.Answer.{Result, is, fault, truth as yes, isNumber}
+use Rattle.ops.specs.Compare.{standing, Standing, stands, apart, judged, mixed, compareNumbers, compareOthers, compareOf, same}
+use Rattle.ops.specs.Not.{notOf, negate}
+use Rattle.ops.specs.Ops.{eqOf, neOf, binaryOf}
 use Rattle.int64.specs.Mask.{maskOf}
 use Rattle.int64.specs.Order.{orderZ, isEqual}
 use Rattle.int64.specs.Order as Order
@@ -22,6 +25,7 @@ use Rattle.int64.specs.declared.order.Cmp.the-variants.{Eq, Ne}
 use Rattle.effect.specs.Effect as M
 use Rattle.table.specs.Tree.{Arith, bitAnd, bitOr, bitXor, lshift, rshift, add, sub, mul, div, mod′, Cmp, eq, ne, lt, le, gt, ge}
 use Rattle.eval.specs.Eval as E
+use Rattle.eval.specs.Apply as Apply
 use Rattle.fold.specs.declared.literal.Run.the-variants.{Ones, Other}
 use Rattle.fold.specs.Literal.{fitsImm40, bits, runAt, runFrom, bitRun}
 use Rattle.fold.specs.Opcodes.{threeOf, mirror, branchOf}
@@ -157,8 +161,8 @@ mask-is (pos m) lo len h = go (eqb m 0) h
 
 -- ---- operators: the machine's by number, the tree's by name
 
-both-is : (k : ℕ) (f : Datum → Datum → Result) → ((x y : Datum) → binaryOf k x y ≡ f x y) → (a b : Result) → M.both k a b ≡ E.both f a b
-unfolding M.both E.both E.on
+both-is : (k : ℕ) (f : Datum → Datum → Result) → ((x y : Datum) → binaryOf k x y ≡ f x y) → (a b : Result) → M.both k a b ≡ Apply.both f a b
+unfolding M.both Apply.both Apply.on
 both-is k f e (is x) (is y) = e x y
 both-is k f e (is x) (fault n) = refl
 both-is k f e (fault n) b = refl
@@ -176,7 +180,7 @@ arith-is mul x y = refl
 arith-is div x y = refl
 arith-is mod′ x y = refl
 
-pub three-is : (o : Arith) (a b : Result) → M.both (M.threeKind (threeOf o)) a b ≡ E.both (E.arithOf o) a b
+pub three-is : (o : Arith) (a b : Result) → M.both (M.threeKind (threeOf o)) a b ≡ Apply.both (E.arithOf o) a b
 three-is o = both-is (M.threeKind (threeOf o)) (E.arithOf o) (arith-is o)
 
 -- an operand's fault is handed on
@@ -207,8 +211,8 @@ twice (truth true) = refl
 twice (truth false) = refl
 twice (wrong e) = refl
 
-cmp-is : (k : ℕ) (c : Cmp) → ((x y : Datum) → binaryOf k x y ≡ E.cmpOf c x y) → (s : Bool) (a b : Result) → test (cond s (M.both k a b) (M.inverted (M.both k a b))) ≡ sameT s (test (E.both (E.cmpOf c) a b))
-cmp-is k c e true a b = ap test (both-is k (E.cmpOf c) e a b) ∙ as-it-is (test (E.both (E.cmpOf c) a b))
+cmp-is : (k : ℕ) (c : Cmp) → ((x y : Datum) → binaryOf k x y ≡ E.cmpOf c x y) → (s : Bool) (a b : Result) → test (cond s (M.both k a b) (M.inverted (M.both k a b))) ≡ sameT s (test (Apply.both (E.cmpOf c) a b))
+cmp-is k c e true a b = ap test (both-is k (E.cmpOf c) e a b) ∙ as-it-is (test (Apply.both (E.cmpOf c) a b))
 cmp-is k c e false a b = opposite (M.both k a b) ∙ ap (λ (r : Result). sameT false (test r)) (both-is k (E.cmpOf c) e a b)
 
 -- Ne is Not of Eq
@@ -230,14 +234,14 @@ ne-eq (float p) (bool b) = refl
 ne-eq (float p) (int b) = ne-mixed (standing b p)
 ne-eq (float p) (float q) = refl
 
-not-equal : (a b : Result) → E.both (E.cmpOf ne) a b ≡ M.inverted (E.both (E.cmpOf eq) a b)
-unfolding E.both E.on E.cmpOf M.inverted negate
+not-equal : (a b : Result) → Apply.both (E.cmpOf ne) a b ≡ M.inverted (Apply.both (E.cmpOf eq) a b)
+unfolding Apply.both Apply.on E.cmpOf M.inverted negate
 not-equal (is x) (is y) = ne-eq x y
 not-equal (is x) (fault n) = refl
 not-equal (fault n) b = refl
 
 -- the branch for a comparison and a sense: not less is not less, also of a NaN and of a fault
-pub jump-is : (c : Cmp) (s : Bool) (a b : Result) → test (M.compare (branchOf c s) a b) ≡ sameT s (test (E.both (E.cmpOf c) a b))
+pub jump-is : (c : Cmp) (s : Bool) (a b : Result) → test (M.compare (branchOf c s) a b) ≡ sameT s (test (Apply.both (E.cmpOf c) a b))
 unfolding M.compare E.cmpOf
 jump-is eq true a b = cmp-is 18 eq (λ x y. refl) true a b
 jump-is ne true a b = cmp-is 19 ne (λ x y. refl) true a b
@@ -246,10 +250,10 @@ jump-is le true a b = cmp-is 21 le (λ x y. refl) true a b
 jump-is gt true a b = cmp-is 22 gt (λ x y. refl) true a b
 jump-is ge true a b = cmp-is 23 ge (λ x y. refl) true a b
 jump-is eq false a b =
-    cmp-is 19 ne (λ x y. refl) true a b ∙ sym (as-it-is (test (E.both (E.cmpOf ne) a b))) ∙ ap test (not-equal a b) ∙ opposite (E.both (E.cmpOf eq) a b)
+    cmp-is 19 ne (λ x y. refl) true a b ∙ sym (as-it-is (test (Apply.both (E.cmpOf ne) a b))) ∙ ap test (not-equal a b) ∙ opposite (Apply.both (E.cmpOf eq) a b)
 jump-is ne false a b =
-    cmp-is 18 eq (λ x y. refl) true a b ∙ sym (as-it-is (test (E.both (E.cmpOf eq) a b))) ∙ twice (test (E.both (E.cmpOf eq) a b))
-    ∙ ap (sameT false) (sym (opposite (E.both (E.cmpOf eq) a b)) ∙ ap test (sym (not-equal a b)))
+    cmp-is 18 eq (λ x y. refl) true a b ∙ sym (as-it-is (test (Apply.both (E.cmpOf eq) a b))) ∙ twice (test (Apply.both (E.cmpOf eq) a b))
+    ∙ ap (sameT false) (sym (opposite (Apply.both (E.cmpOf eq) a b)) ∙ ap test (sym (not-equal a b)))
 jump-is lt false a b = cmp-is 20 lt (λ x y. refl) false a b
 jump-is le false a b = cmp-is 21 le (λ x y. refl) false a b
 jump-is gt false a b = cmp-is 22 gt (λ x y. refl) false a b
@@ -293,7 +297,7 @@ mirrored le z x = refl
 mirrored gt z x = refl
 mirrored ge z x = refl
 
-pub mirror-is : (c : Cmp) (z : ℤ) (a : Result) → E.both (E.cmpOf (mirror c)) a (is (int z)) ≡ E.both (E.cmpOf c) (is (int z)) a
-unfolding E.both E.on
+pub mirror-is : (c : Cmp) (z : ℤ) (a : Result) → Apply.both (E.cmpOf (mirror c)) a (is (int z)) ≡ Apply.both (E.cmpOf c) (is (int z)) a
+unfolding Apply.both Apply.on
 mirror-is c z (is x) = mirrored c z x
 mirror-is c z (fault n) = refl

@@ -15,7 +15,7 @@ use Rattle.decode.specs.declared.patch.Branching.{Branching}
 use Rattle.decode.specs.declared.patch.Reach.{Reach}
 use Rattle.decode.specs.declared.patch.Aimed.{Aimed}
 use Rattle.decode.specs.declared.patch.Patched.{Patched}
-use Rattle.decode.specs.Patch.{difference, reachOf, branchOf, branchBy, aimWord, Patching, isDone, pickPatching, patchOf, patchAll}
+use Rattle.decode.specs.Patch.{difference, reachOf, branchOf, branchBy, aimWord, Patching, isDone, patchOf, patchAll}
 use Rattle.claim.proofs.fragments.Frag.{aimed}
 use Rattle.claim.proofs.fragments.Fits.{word, made, reads, far, BranchFits, branch-fits}
 
@@ -62,8 +62,8 @@ patch-last ws ws' p target e = rw e refl
 
 -- two lists, one after the other
 go-on :
-    (b : Bool) (x : Patching) (ws' : List ℕ) (f g r : Patching) → isDone (x .answer) ≡ b → (f ≡ patched ws' → g ≡ r) → pickPatching b f x ≡ patched ws' →
-    pickPatching b g x ≡ r
+    (b : Bool) (x : Patching) (ws' : List ℕ) (f g r : Patching) → isDone (x .answer) ≡ b → (f ≡ patched ws' → g ≡ r) → cond b f x ≡ patched ws' →
+    cond b g x ≡ r
 go-on true x ws' f g r w h e = h e
 go-on false x ws' f g r w h e =
     let d : isDone (x .answer) ≡ true = ap (λ (y : Patching). isDone (y .answer)) e in

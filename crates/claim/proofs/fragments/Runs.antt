@@ -14,7 +14,7 @@ use Rattle.insns.specs.declared.op.Op.{Op}
 use Rattle.decode.specs.Decode.{decodeOf}
 use Rattle.decode.specs.declared.Decoded.{Decoded}
 use Rattle.value.specs.Value.{Datum, nil, bool, int, float}
-use Rattle.ops.specs.Ops.{Result, is, fault}
+use Rattle.value.specs.Answer.{Result, is, fault}
 use Rattle.effect.specs.Effect.{write, branch, effectOf}
 use Rattle.machine.specs.Step.{Next, go, put, stop, settleOf, putOf, branchOf, landOf}
 use Rattle.machine.specs.Datums.{valueAt}

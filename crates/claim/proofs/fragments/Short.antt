@@ -10,7 +10,7 @@ use Rattle.insns.specs.declared.op.Op.{Op}
 use Rattle.insns.specs.declared.op.Three.{Three}
 use Rattle.decode.specs.declared.patch.Branch.{Branch}
 use Rattle.value.specs.Value.{Datum}
-use Rattle.table.specs.Tree.{Tree, leaf, unary, binary, ternary, Leaf, nil, yep, nope, int, float, ref, Unary, minus, neg, Cmp, Binary, arith, cmp, and, or, size}
+use Rattle.table.specs.Tree.{Tree, leaf, unary, binary, ternary, Leaf, nil, yep, nope, int, float, ref, Unary, minus, not′, Cmp, Binary, arith, cmp, and, or, size}
 use Rattle.emit.specs.declared.state.Dst.{Dst}
 use Rattle.emit.specs.declared.state.Dst.the-variants.{Any, To}
 use Rattle.fold.specs.declared.Tail.{Tail}
@@ -48,7 +48,7 @@ pub record Short (F : Frag) (w : ℕ) : Type 0 where
 -- the most words that a tree's value or branch can take
 abbrev pub unaryWords : Unary → ℕ → ℕ
 unaryWords minus a = a + 2
-unaryWords neg a = a + 1
+unaryWords not′ a = a + 1
 
 abbrev pub binaryWords : Binary → ℕ → ℕ → ℕ
 binaryWords (arith o) a b = a + b + 2
@@ -66,7 +66,7 @@ pub words-size : (t : Tree) → words t ≤ 4 * size t
 unfolding words size
 words-size (leaf l) = omega linear
 words-size (unary minus a) = omega (linear, words-size a)
-words-size (unary neg a) = omega (linear, words-size a)
+words-size (unary not′ a) = omega (linear, words-size a)
 words-size (binary (arith o) a b) = omega (linear, words-size a, words-size b)
 words-size (binary (cmp o) a b) = omega (linear, words-size a, words-size b)
 words-size (binary and a b) = omega (linear, words-size a, words-size b)
@@ -227,7 +227,7 @@ within {F} up s = record { values = less-V (F .value) up (s .values); branches =
 
 unary-words : (o : Unary) (F : Frag) (w : ℕ) → Short F w → Short (unaryN o F) (unaryWords o w)
 unary-words minus F w s = within (omega linear) (plain-short (tailF minusOne (F .value)) (F .value) (w + 1) (unary-short (F .value) (tailOp minusOne) w (s .values)) (less-V (F .value) (omega linear) (s .values)))
-unary-words neg F w s =
+unary-words not′ F w s =
     record {
       values = unary-short (F .value) (tailOp Tail.Not) w (s .values);
       branches = λ sense n ks. less-B (F .branch) (omega linear) (s .branches) (not sense) n ks;

@@ -14,7 +14,7 @@ use Rattle.insns.specs.declared.op.Op.{Op}
 use Rattle.insns.specs.declared.op.Imm40.{Imm40}
 use Rattle.decode.specs.declared.patch.Branch.{Branch}
 use Rattle.value.specs.Value.{Datum, nil}
-use Rattle.ops.specs.Ops.{Result, is, fault}
+use Rattle.value.specs.Answer.{Result, is, fault}
 use Rattle.effect.specs.Effect.{write, branch, effectOf, rawOf}
 use Rattle.machine.specs.Step.{putOf, stop}
 use Rattle.machine.specs.Datums.{valueAt}

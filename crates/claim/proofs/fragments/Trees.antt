@@ -19,11 +19,14 @@ use Rattle.int64.specs.declared.order.Cmp.{Cmp as ValueCmp}
 use Rattle.int64.specs.declared.order.Cmp.the-variants as VC
 use Rattle.value.specs.Value.{Datum}
 use Rattle.value.specs.Value as Val
-use Rattle.ops.specs.Ops.{Result, is, fault, negate, isNumber, Standing, stands, apart, standing, judged, mixed, mirror as exchanged, compareNumbers, compareOthers, compareOf, same as sameDatum}
+use Rattle.value.specs.Answer.{Result, is, fault, isNumber}
+use Rattle.ops.specs.Not.{negate}
+use Rattle.ops.specs.Compare.{Standing, stands, apart, standing, judged, mixed, mirror as exchanged, compareNumbers, compareOthers, compareOf, same as sameDatum}
 use Rattle.effect.specs.Effect as M
 use Rattle.effect.specs.Effect.{effectOf, write, branch}
-use Rattle.table.specs.Tree.{Tree, leaf, unary, binary, ternary, Leaf, nil, yep, nope, int, float, ref, Unary, minus, neg, Arith, bitAnd, bitOr, bitXor, lshift, rshift, add, sub, mul, div, mod′, Cmp, eq, ne, lt, le, gt, ge, Binary, arith, cmp, and, or, RefBelow, RefsBelow}
+use Rattle.table.specs.Tree.{Tree, leaf, unary, binary, ternary, Leaf, nil, yep, nope, int, float, ref, Unary, minus, not′, Arith, bitAnd, bitOr, bitXor, lshift, rshift, add, sub, mul, div, mod′, Cmp, eq, ne, lt, le, gt, ge, Binary, arith, cmp, and, or, RefBelow, RefsBelow}
 use Rattle.eval.specs.Eval as E
+use Rattle.eval.specs.Apply as Apply
 use Rattle.eval.specs.Eval.{evalOf, leafOf}
 use Rattle.emit.specs.declared.state.Dst.{Dst}
 use Rattle.emit.specs.declared.state.Dst.the-variants.{Any, To}
@@ -63,8 +66,8 @@ cond-join (truth true) = refl
 cond-join (truth false) = refl
 cond-join (wrong e) = refl
 
-tern-join : (c a b : Result) → Sound.joinR false (test c) a b ≡ E.whether c a b
-unfolding E.whether
+tern-join : (c a b : Result) → Sound.joinR false (test c) a b ≡ Apply.whether c a b
+unfolding Apply.whether
 tern-join (is Val.nil) a b = refl
 tern-join (is (Val.bool true)) a b = refl
 tern-join (is (Val.bool false)) a b = refl
@@ -72,8 +75,8 @@ tern-join (is (Val.int z)) a b = refl
 tern-join (is (Val.float p)) a b = refl
 tern-join (fault e) a b = refl
 
-tested : (b : Result) → boolR (test b) ≡ E.test b
-unfolding E.test E.whether
+tested : (b : Result) → boolR (test b) ≡ Apply.test b
+unfolding Apply.test Apply.whether
 tested (is Val.nil) = refl
 tested (is (Val.bool true)) = refl
 tested (is (Val.bool false)) = refl
@@ -82,7 +85,7 @@ tested (is (Val.float p)) = refl
 tested (fault e) = refl
 
 and-is : (a b : Result) → boolR (Sound.eitherR false (test a) (test b)) ≡ E.binaryOf and a b
-unfolding E.binaryOf E.whether
+unfolding E.binaryOf Apply.whether
 and-is (is Val.nil) b = refl
 and-is (is (Val.bool true)) b = tested b
 and-is (is (Val.bool false)) b = refl
@@ -91,7 +94,7 @@ and-is (is (Val.float p)) b = refl
 and-is (fault e) b = refl
 
 or-is : (a b : Result) → boolR (Sound.eitherR true (test a) (test b)) ≡ E.binaryOf or a b
-unfolding E.binaryOf E.whether
+unfolding E.binaryOf Apply.whether
 or-is (is Val.nil) b = refl
 or-is (is (Val.bool true)) b = refl
 or-is (is (Val.bool false)) b = tested b
@@ -238,12 +241,12 @@ firstOf ls (ternary c a b) = evalOf ls c
 
 -- a shift by a literal is worth its left side, shifted
 abbrev ShiftIs : Amount → Result → Result → Type 0
-ShiftIs (By k) e e₁ = e ≡ E.both (E.arithOf rshift) e₁ (is (Val.int (pos k)))
+ShiftIs (By k) e e₁ = e ≡ Apply.both (E.arithOf rshift) e₁ (is (Val.int (pos k)))
 ShiftIs NoShift e e₁ = Unit {0}
 
-shift-by : (s : Amount) (ea eb : Result) → AmountIs s eb → ShiftIs s (E.both (E.arithOf rshift) ea eb) ea
+shift-by : (s : Amount) (ea eb : Result) → AmountIs s eb → ShiftIs s (Apply.both (E.arithOf rshift) ea eb) ea
 shift-by NoShift ea eb h = tt
-shift-by (By k) ea eb h = ap (E.both (E.arithOf rshift) ea) h
+shift-by (By k) ea eb h = ap (Apply.both (E.arithOf rshift) ea) h
 
 shifted-is : (t : Tree) (ls : List Datum) → ShiftIs (shiftedBy t) (evalOf ls t) (firstOf ls t)
 unfolding shiftedBy shiftBy evalOf firstOf E.binaryOf
@@ -275,12 +278,12 @@ operandR (Tail.Mask lo len) a first = a
 operandR (Tail.ShiftMask k lo len) a first = first
 
 abbrev FoldIs : Fold → Arith → Result → Result → Result → Type 0
-FoldIs (Into tail) o ea e₁ eb = E.both (E.arithOf o) ea eb ≡ tailR tail (operandR tail ea e₁)
+FoldIs (Into tail) o ea e₁ eb = Apply.both (E.arithOf o) ea eb ≡ tailR tail (operandR tail ea e₁)
 FoldIs General o ea e₁ eb = Unit {0}
 
 -- the operator with a literal, as the machine has it
-with-literal : (o : Arith) (z : ℤ) (ea eb : Result) → eb ≡ is (Val.int z) → E.both (E.arithOf o) ea eb ≡ M.both (M.threeKind (threeOf o)) ea (M.literal z)
-with-literal o z ea eb h = ap (E.both (E.arithOf o) ea) h ∙ sym (three-is o ea (is (Val.int z)))
+with-literal : (o : Arith) (z : ℤ) (ea eb : Result) → eb ≡ is (Val.int z) → Apply.both (E.arithOf o) ea eb ≡ M.both (M.threeKind (threeOf o)) ea (M.literal z)
+with-literal o z ea eb h = ap (Apply.both (E.arithOf o) ea) h ∙ sym (three-is o ea (is (Val.int z)))
 
 mask-fold :
     (s : Amount) (z : ℤ) (r : Run) (ea e₁ eb : Result) → ShiftIs s ea e₁ → eb ≡ is (Val.int z) → bitRun z ≡ r → FoldIs (maskFold s r) bitAnd ea e₁ eb
@@ -332,28 +335,28 @@ cmp-bool le x y = compare-bool VC.Le x y
 cmp-bool gt x y = compare-bool VC.Lt y x
 cmp-bool ge x y = compare-bool VC.Le y x
 
-compared-bool : (c : Cmp) (a b : Result) → boolR (test (E.both (E.cmpOf c) a b)) ≡ E.both (E.cmpOf c) a b
-unfolding E.both E.on
+compared-bool : (c : Cmp) (a b : Result) → boolR (test (Apply.both (E.cmpOf c) a b)) ≡ Apply.both (E.cmpOf c) a b
+unfolding Apply.both Apply.on
 compared-bool c (is x) (is y) = cmp-bool c x y
 compared-bool c (is x) (fault e) = refl
 compared-bool c (fault e) b = refl
 
 -- a comparison hands its operands' faults on
-cmp-left : (c : Cmp) (e : ℕ) (b : Result) → test (E.both (E.cmpOf c) (fault e) b) ≡ wrong e
-unfolding E.both
+cmp-left : (c : Cmp) (e : ℕ) (b : Result) → test (Apply.both (E.cmpOf c) (fault e) b) ≡ wrong e
+unfolding Apply.both
 cmp-left c e b = refl
 
-cmp-right : (c : Cmp) (x : Datum) (e : ℕ) → test (E.both (E.cmpOf c) (is x) (fault e)) ≡ wrong e
-unfolding E.both E.on
+cmp-right : (c : Cmp) (x : Datum) (e : ℕ) → test (Apply.both (E.cmpOf c) (is x) (fault e)) ≡ wrong e
+unfolding Apply.both Apply.on
 cmp-right c x e = refl
 
-minus-is : (e : Result) → tailR minusOne e ≡ E.on (E.unaryOf minus) e
-unfolding M.both E.on E.unaryOf
+minus-is : (e : Result) → tailR minusOne e ≡ Apply.on (E.unaryOf minus) e
+unfolding M.both Apply.on E.unaryOf
 minus-is (is x) = refl
 minus-is (fault n) = refl
 
-not-is : (e : Result) → M.inverted e ≡ E.on (E.unaryOf neg) e
-unfolding M.inverted E.on E.unaryOf negate
+not-is : (e : Result) → M.inverted e ≡ Apply.on (E.unaryOf not′) e
+unfolding M.inverted Apply.on E.unaryOf negate
 not-is (is x) = refl
 not-is (fault n) = refl
 
@@ -384,7 +387,7 @@ module _ (C : List ℕ) (W ls : List Datum) (b : ℕ) where
       Sound.un-sound C W ls b n ks A e dst (λ d. tailOp tail d (A .reg)) (tailR tail) low (s Any n ks up tt)
       (λ reg slot d. tail-asks tail reg slot d (A .reg)) (tail-strict tail)
 
-  three-values : (o : Arith) (v w : ValueF) (ea eb : Result) → Values v ea → Values w eb → Values (binaryF v w (Op.Three (threeOf o))) (E.both (E.arithOf o) ea eb)
+  three-values : (o : Arith) (v w : ValueF) (ea eb : Result) → Values v ea → Values w eb → Values (binaryF v w (Op.Three (threeOf o))) (Apply.both (E.arithOf o) ea eb)
   three-values o v w ea eb sa sb =
       value-as (three-is o ea eb)
       (λ dst n ks up low.
@@ -397,7 +400,7 @@ module _ (C : List ℕ) (W ls : List Datum) (b : ℕ) where
 
   arith-values :
       (f : Fold) (o : Arith) (v w₁ w : ValueF) (ea e₁ eb : Result) → FoldIs f o ea e₁ eb → Values v ea → Values w₁ e₁ → Values w eb →
-      Values (arithF f (threeOf o) v w₁ w) (E.both (E.arithOf o) ea eb)
+      Values (arithF f (threeOf o) v w₁ w) (Apply.both (E.arithOf o) ea eb)
   arith-values General o v w₁ w ea e₁ eb h sa s₁ sb = three-values o v w ea eb sa sb
   arith-values (Into tail) o v w₁ w ea e₁ eb h sa s₁ sb =
       value-as (sym h) (tail-values tail (operandF tail v w₁) (operandR tail ea e₁) (operand tail))
@@ -411,7 +414,7 @@ module _ (C : List ℕ) (W ls : List Datum) (b : ℕ) where
 
   -- a register against a literal: t is the test
   imm-branches :
-      (c : Cmp) (z : Small) (v : ValueF) (e : Result) (t : Result → Truth) → ((x : Datum) → test (E.both (E.cmpOf c) (is x) (is (Val.int (z .n)))) ≡ t (is x)) →
+      (c : Cmp) (z : Small) (v : ValueF) (e : Result) (t : Result → Truth) → ((x : Datum) → test (Apply.both (E.cmpOf c) (is x) (is (Val.int (z .n)))) ≡ t (is x)) →
       ((n : ℕ) → t (fault n) ≡ wrong n) → Values v e → Branches (λ sense. unaryTestF v (immOn (branchOf c sense) z)) (t e)
   imm-branches c z v e t h strict s sense n ks up =
       let A = v Any n ks in
@@ -420,24 +423,24 @@ module _ (C : List ℕ) (W ls : List Datum) (b : ℕ) where
 
   pair-branches :
       (c : Cmp) (v w : ValueF) (ea eb : Result) → Values v ea → Values w eb →
-      Branches (λ sense. binaryTestF v w (pairOn (branchOf c sense))) (test (E.both (E.cmpOf c) ea eb))
+      Branches (λ sense. binaryTestF v w (pairOn (branchOf c sense))) (test (Apply.both (E.cmpOf c) ea eb))
   pair-branches c v w ea eb sa sb sense n ks up =
       let A = v Any n ks in
       let va = sa Any n ks up tt in
       let B = w Any (A .next) (ks ++ A .consts) in
       Sound.bin-leap C W ls b sense n ks A B ea eb (pairOn (branchOf c sense) (A .reg) (B .reg)) (M.compare (branchOf c sense))
-      (λ x y. test (E.both (E.cmpOf c) x y)) up va (sb Any (A .next) (ks ++ A .consts) (omega (linear, va .more)) tt) (λ reg slot j. refl)
+      (λ x y. test (Apply.both (E.cmpOf c) x y)) up va (sb Any (A .next) (ks ++ A .consts) (omega (linear, va .more)) tt) (λ reg slot j. refl)
       (λ x y. jump-is c sense (is x) (is y)) (cmp-left c) (cmp-right c)
 
   compare-branches :
       (c : Cmp) (l r : Imm) (v w : ValueF) (ea eb : Result) → ImmIs l ea → ImmIs r eb → Values v ea → Values w eb →
-      Branches (compareF c l r v w) (test (E.both (E.cmpOf c) ea eb))
+      Branches (compareF c l r v w) (test (Apply.both (E.cmpOf c) ea eb))
   compare-branches c l (Imm16 z) v w ea eb hl hr sa sb sense n ks up =
-      subst (λ (e : Result). BSound C W ls b sense n ks (compareF c l (Imm16 z) v w sense n ks) (test (E.both (E.cmpOf c) ea e))) (sym hr)
-      (imm-branches c z v ea (λ x. test (E.both (E.cmpOf c) x (is (Val.int (z .n))))) (λ x. refl) (λ m. cmp-left c m (is (Val.int (z .n)))) sa sense n ks up)
+      subst (λ (e : Result). BSound C W ls b sense n ks (compareF c l (Imm16 z) v w sense n ks) (test (Apply.both (E.cmpOf c) ea e))) (sym hr)
+      (imm-branches c z v ea (λ x. test (Apply.both (E.cmpOf c) x (is (Val.int (z .n))))) (λ x. refl) (λ m. cmp-left c m (is (Val.int (z .n)))) sa sense n ks up)
   compare-branches c (Imm16 z) NoImm v w ea eb hl hr sa sb sense n ks up =
-      subst (λ (e : Result). BSound C W ls b sense n ks (compareF c (Imm16 z) NoImm v w sense n ks) (test (E.both (E.cmpOf c) e eb))) (sym hl)
-      (imm-branches (mirror c) z w eb (λ x. test (E.both (E.cmpOf c) (is (Val.int (z .n))) x)) (λ x. ap test (mirror-is c (z .n) (is x))) (cmp-right c (Val.int (z .n))) sb sense n ks
+      subst (λ (e : Result). BSound C W ls b sense n ks (compareF c (Imm16 z) NoImm v w sense n ks) (test (Apply.both (E.cmpOf c) e eb))) (sym hl)
+      (imm-branches (mirror c) z w eb (λ x. test (Apply.both (E.cmpOf c) (is (Val.int (z .n))) x)) (λ x. ap test (mirror-is c (z .n) (is x))) (cmp-right c (Val.int (z .n))) sb sense n ks
       up)
   compare-branches c NoImm NoImm v w ea eb hl hr sa sb sense n ks up = pair-branches c v w ea eb sa sb sense n ks up
 
@@ -457,7 +460,7 @@ module _ (C : List ℕ) (W ls : List Datum) (b : ℕ) where
       (load-values rawTrue (Val.bool true) raw-true (To d) m (ks' ++ []) up′ low') refl refl)
 
   tern-values :
-      (br : BranchF) (v w : ValueF) (ec ea eb : Result) → Branches br (test ec) → Values v ea → Values w eb → Values (ternF br v w) (E.whether ec ea eb)
+      (br : BranchF) (v w : ValueF) (ec ea eb : Result) → Branches br (test ec) → Values v ea → Values w eb → Values (ternF br v w) (Apply.whether ec ea eb)
   tern-values br v w ec ea eb sc sa sb dst n ks up low =
       let d = dReg dst n in
       let m = dNext dst n in
@@ -508,11 +511,11 @@ module _ (C : List ℕ) (W ls : List Datum) (b : ℕ) where
   condition-sound br f t e e₁ h s s₁ =
       record { values = value-as h (cond-values br t s); branches = branch-as (sym (test-bool t) ∙ ap test h) s; firsts = s₁ }
 
-  unary-sound : (o : Unary) (F : Frag) (e e₁ : Result) → TSound F e e₁ → TSound (unaryN o F) (E.on (E.unaryOf o) e) e
+  unary-sound : (o : Unary) (F : Frag) (e e₁ : Result) → TSound F e e₁ → TSound (unaryN o F) (Apply.on (E.unaryOf o) e) e
   unary-sound minus F e e₁ s =
-      plain-sound (tailF minusOne (F .value)) (F .value) (E.on (E.unaryOf minus) e) e (value-as (minus-is e) (tail-values minusOne (F .value) e (s .values)))
+      plain-sound (tailF minusOne (F .value)) (F .value) (Apply.on (E.unaryOf minus) e) e (value-as (minus-is e) (tail-values minusOne (F .value) e (s .values)))
       (s .values)
-  unary-sound neg F e e₁ s =
+  unary-sound not′ F e e₁ s =
       record {
         values = value-as (not-is e) (tail-values Tail.Not (F .value) e (s .values));
         branches =
@@ -526,13 +529,13 @@ module _ (C : List ℕ) (W ls : List Datum) (b : ℕ) where
       TSound (binaryN o x y F G) (E.binaryOf o (evalOf ls x) (evalOf ls y)) (evalOf ls x)
   unfolding E.binaryOf
   binary-sound (arith o) x y F G s t =
-      plain-sound (arithF (foldOf o x y) (threeOf o) (F .value) (F .first) (G .value)) (F .value) (E.both (E.arithOf o) (evalOf ls x) (evalOf ls y)) (evalOf ls x)
+      plain-sound (arithF (foldOf o x y) (threeOf o) (F .value) (F .first) (G .value)) (F .value) (Apply.both (E.arithOf o) (evalOf ls x) (evalOf ls y)) (evalOf ls x)
       (arith-values (foldOf o x y) o (F .value) (F .first) (G .value) (evalOf ls x) (firstOf ls x) (evalOf ls y) (fold-is o x y ls) (s .values) (s .firsts)
       (t .values))
       (s .values)
   binary-sound (cmp c) x y F G s t =
-      condition-sound (compareF c (asImm16 x) (asImm16 y) (F .value) (G .value)) (F .value) (test (E.both (E.cmpOf c) (evalOf ls x) (evalOf ls y)))
-      (E.both (E.cmpOf c) (evalOf ls x) (evalOf ls y)) (evalOf ls x) (compared-bool c (evalOf ls x) (evalOf ls y))
+      condition-sound (compareF c (asImm16 x) (asImm16 y) (F .value) (G .value)) (F .value) (test (Apply.both (E.cmpOf c) (evalOf ls x) (evalOf ls y)))
+      (Apply.both (E.cmpOf c) (evalOf ls x) (evalOf ls y)) (evalOf ls x) (compared-bool c (evalOf ls x) (evalOf ls y))
       (compare-branches c (asImm16 x) (asImm16 y) (F .value) (G .value) (evalOf ls x) (evalOf ls y) (imm-is x ls) (imm-is y ls) (s .values) (t .values))
       (s .values)
   binary-sound and x y F G s t =
@@ -551,7 +554,7 @@ module _ (C : List ℕ) (W ls : List Datum) (b : ℕ) where
   sound (binary o x y) h = binary-sound o x y (frag x) (frag y) (sound x (h .0)) (sound y (h .1))
   sound (ternary c x y) h =
       let s = sound c (h .0) in
-      plain-sound (ternF (frag c .branch) (frag x .value) (frag y .value)) (frag c .value) (E.whether (evalOf ls c) (evalOf ls x) (evalOf ls y)) (evalOf ls c)
+      plain-sound (ternF (frag c .branch) (frag x .value) (frag y .value)) (frag c .value) (Apply.whether (evalOf ls c) (evalOf ls x) (evalOf ls y)) (evalOf ls c)
       (tern-values (frag c .branch) (frag x .value) (frag y .value) (evalOf ls c) (evalOf ls x) (evalOf ls y) (s .branches) (sound x (h .1) .values)
       (sound y (h .2) .values))
       (s .values)

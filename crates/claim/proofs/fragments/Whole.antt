@@ -10,7 +10,7 @@ use borrow.Author.Tests.{lt-ltb, le-ltb}
 use Rattle.insns.specs.declared.op.Op.{Op}
 use Rattle.decode.specs.Decode.{decodeOf}
 use Rattle.value.specs.Value.{Datum}
-use Rattle.ops.specs.Ops.{Result, is, fault}
+use Rattle.value.specs.Answer.{Result, is, fault}
 use Rattle.machine.specs.Step.{go, put}
 use Rattle.machine.specs.Run.{ran}
 use Rattle.machine.specs.Datums.{valueAt, nextOf, end, valuesFrom}

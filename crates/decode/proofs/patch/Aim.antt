@@ -16,7 +16,7 @@ use mir.Val.{SFits, toZ, ofZ}
 use mir.Facts.{toZ-ofZ}
 use mir.ValLaws.{toZ-pos}
 use Rattle.insns.proofs.bits.Sign.{back}
-use Rattle.decode.specs.Patch.{difference, reachOf, pickReach, aimWord, Patching, putAimed, pickPatching, patchOf, patchAll, isDone}
+use Rattle.decode.specs.Patch.{difference, reachOf, aimWord, Patching, putAimed, patchOf, patchAll, isDone}
 use Rattle.decode.specs.declared.patch.Reach.{Reach}
 use Rattle.decode.specs.declared.patch.Aimed.{Aimed}
 use Rattle.decode.specs.declared.patch.Patched.{Patched}
@@ -46,11 +46,11 @@ near at t = Reach.By (record { by = difference at t })
 
 far-off : (at t : ℕ) → 2147483648 ≤ mag (difference at t) → Reach.Far ≡ reachOf at t
 unfolding reachOf
-far-off at t h = ap (λ (b : Bool). pickReach b (near at t) Reach.Far) (sym (le-ltb (mag (difference at t)) 2147483648 h))
+far-off at t h = ap (λ (b : Bool). cond b (near at t) Reach.Far) (sym (le-ltb (mag (difference at t)) 2147483648 h))
 
 pub in-reach : (at t : ℕ) → mag (difference at t) < 2147483648 → near at t ≡ reachOf at t
 unfolding reachOf
-in-reach at t h = ap (λ (b : Bool). pickReach b (near at t) Reach.Far) (sym (lt-ltb (mag (difference at t)) 2147483648 h))
+in-reach at t h = ap (λ (b : Bool). cond b (near at t) Reach.Far) (sym (lt-ltb (mag (difference at t)) 2147483648 h))
 
 pub past-62 : (at t : ℕ) → at < 2305843009213693952 → 4611686018427387904 ≤ t → Reach.Far ≡ reachOf at t
 past-62 at t a l =
@@ -85,11 +85,11 @@ pub ruleset displacements = (past-62, d-fits, near-by, far-by)
 
 pub no-word : (ws : List ℕ) (at t : ℕ) → length ws ≤ at → record { answer = Patched.NoWord; words = ws } ≡ patchOf ws at t
 unfolding patchOf
-no-word ws at t h = ap (λ (b : Bool). pickPatching b (putAimed (aimWord (getD ws at 0) at t) ws at) (record { answer = Patched.NoWord; words = ws })) (sym (le-ltb at (length ws) h))
+no-word ws at t h = ap (λ (b : Bool). cond b (putAimed (aimWord (getD ws at 0) at t) ws at) (record { answer = Patched.NoWord; words = ws })) (sym (le-ltb at (length ws) h))
 
 pub a-word : (ws : List ℕ) (at t : ℕ) {a b : Aimed} → at < length ws → a ≡ aimWord (getD ws at 0) at t → a ≡ b → putAimed b ws at ≡ patchOf ws at t
 unfolding patchOf
-a-word ws at t {a} {b} h q k = ap (λ (x : Aimed). putAimed x ws at) (sym k ∙ q) ∙ ap (λ (x : Bool). pickPatching x (putAimed (aimWord (getD ws at 0) at t) ws at) (record { answer = Patched.NoWord; words = ws })) (sym (lt-ltb at (length ws) h))
+a-word ws at t {a} {b} h q k = ap (λ (x : Aimed). putAimed x ws at) (sym k ∙ q) ∙ ap (λ (x : Bool). cond x (putAimed (aimWord (getD ws at 0) at t) ws at) (record { answer = Patched.NoWord; words = ws })) (sym (lt-ltb at (length ws) h))
 
 -- an answer and the words that are left, from the one equation
 pub both : {p q : Patching} → p ≡ q → (p .answer ≡ q .answer) × (p .words ≡ q .words)

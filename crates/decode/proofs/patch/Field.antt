@@ -1,7 +1,7 @@
 -- A word aimed as a number is what the definition says. The word of a branch is the number of its opcode and its other operands, and above it the
 -- displacement's field: made of the same branch with another displacement, only the field changes. Assumes nothing.
 use mathlib.Core.Path.{_≡_, refl, sym, ap, subst, _∙_}
-use mathlib.Core.Bool.{Bool, true, false, _&&_, and-true, and-assoc}
+use mathlib.Core.Bool.{Bool, true, false, _&&_, and-true, and-assoc, cond}
 use mathlib.Core.List.{List, [], _∷_, _++_}
 use mathlib.Core.Logic.{_⊎_, inl, inr, ⊎-elim}
 use Prim.Native.Nat.{ℕ, zero, suc, _+_, _*_, _-_, _/_, _%_, _≤_, _<_, _^_}
@@ -15,7 +15,8 @@ use lib.Seq.{getD-take, getD-drop}
 use lib.Signed.{mag}
 use mir.Syntax.{w32, w64}
 use mir.Val.{Fits, SFits, toZ, ofZ}
-use Rattle.insns.specs.Fields.{Field, u, s, pack, allFit, make, wordIf, pickMade, twos}
+use Rattle.insns.specs.Fields.{Field, u, s, pack, allFit, make, wordIf}
+use Rattle.insns.specs.Bits.{twos}
 use Rattle.insns.specs.Insns.{forms, formAt, opOf, formOf, fieldsOf, madeOf, ifOp, jumpOp, jumpImmOp}
 use Rattle.insns.specs.declared.Made.{Made}
 use Rattle.insns.specs.declared.op.Cmp.{Cmp}
@@ -26,11 +27,11 @@ use Rattle.insns.specs.declared.op.Sense.{Sense}
 use Rattle.insns.proofs.Packing.{join-lt}
 use Rattle.insns.proofs.bits.Sign.{widened}
 use Rattle.insns.proofs.Table.{and-true as both-true, form-op}
-use Rattle.decode.specs.Decode.{decodeOf, decodeAs, dispIn, imm16, whole, pickDecoded}
+use Rattle.decode.specs.Decode.{decodeOf, decodeAs, dispIn, imm16, whole}
 use Rattle.decode.specs.declared.Decoded.{Decoded}
 use Rattle.decode.proofs.RoundTrip.{head-fits, made-fits, made-decode}
-use Rattle.decode.specs.Field.{Place, pickAimed, aimField, unaimed}
-use Rattle.decode.specs.Patch.{difference, reachOf, pickReach, branchOf, branchBy, aimedMade, aimedReach, aimedBranching, aimedDecoded, aimWord}
+use Rattle.decode.specs.Field.{Place, aimField, unaimed}
+use Rattle.decode.specs.Patch.{difference, reachOf, branchOf, branchBy, aimedMade, aimedReach, aimedBranching, aimedDecoded, aimWord}
 use Rattle.decode.specs.declared.patch.Aimed.{Aimed}
 use Rattle.decode.specs.declared.patch.Branch.{Branch}
 use Rattle.decode.specs.declared.patch.Branching.{Branching}
@@ -139,7 +140,7 @@ module _ (b : Branch) (fit : allFit (lows b) ≡ true) where
       let v = twos (half b) (disp .by) in
       sym (ap aimedMade (made-is b disp) ∙ rw (fit-end (lows b) (2 * half b) v, fit, pack-end (lows b) (2 * half b) v, joined b v) (go (ltb v (2 * half b)) (low b + place b * v)))
     where
-      go : (p : Bool) (x : ℕ) → aimedMade (pickMade p (Made.Fits (record { bits = x })) Made.Refused) ≡ pickAimed p (Aimed.To x) Aimed.TooFar
+      go : (p : Bool) (x : ℕ) → aimedMade (cond p (Made.Fits (record { bits = x })) Made.Refused) ≡ cond p (Aimed.To x) Aimed.TooFar
       go true x = refl
       go false x = refl
   aimed Reach.Far = refl
@@ -198,11 +199,11 @@ jump-form op l h =
 -- nothing above the fields, or something
 whole-is : (rest : ℕ) (i : Op) → rest ≡ 0 → whole rest i ≡ Decoded.Is i
 unfolding whole
-whole-is rest i e = ap (λ (b : Bool). pickDecoded b (Decoded.Is i) Decoded.Bad) (eq-eqb rest 0 e)
+whole-is rest i e = ap (λ (b : Bool). cond b (Decoded.Is i) Decoded.Bad) (eq-eqb rest 0 e)
 
 whole-not : (rest : ℕ) (i : Op) → (rest ≡ 0 → ⊥) → whole rest i ≡ Decoded.Bad
 unfolding whole
-whole-not rest i e = ap (λ (b : Bool). pickDecoded b (Decoded.Is i) Decoded.Bad) (ne-eqb rest 0 e)
+whole-not rest i e = ap (λ (b : Bool). cond b (Decoded.Is i) Decoded.Bad) (ne-eqb rest 0 e)
 
 bad : (w : ℕ) (r : Reach) → decodeOf w ≡ Decoded.Bad → Aimed.Undecoded ≡ aimedDecoded (decodeOf w) r
 bad w r e = ap (λ (d : Decoded). aimedDecoded d r) (sym e)

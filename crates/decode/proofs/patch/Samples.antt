@@ -2,7 +2,8 @@
 use mathlib.Core.Path.{_≡_, refl}
 use mathlib.Core.List.{List, [], _∷_, map}
 use Prim.Native.Nat.{ℕ}
-use Rattle.insns.specs.Fields.{wordIf, twos, isRaw, rawBits}
+use Rattle.insns.specs.Fields.{wordIf, rawBits}
+use Rattle.insns.specs.Bits.{twos, isRaw}
 use Rattle.decode.specs.Decode.{decodeOf, signed, whole, ifRaw}
 use Rattle.decode.specs.Patch.{reachOf, aimWord, putAimed, patchedNumber}
 

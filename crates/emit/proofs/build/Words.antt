@@ -7,7 +7,8 @@ use lib.IntN.{ℤ}
 use mir.Syntax.{w16, w64}
 use mir.Val.{SFits, toZ, ofZ}
 use Rattle.insns.proofs.bits.Sign.{widens, widened}
-use Rattle.insns.specs.Fields.{make, u, raw, twos, rawBits}
+use Rattle.insns.specs.Fields.{make, u, raw, rawBits}
+use Rattle.insns.specs.Bits.{twos}
 use Rattle.insns.specs.Insns.{madeOf, arithOp, jumpOp, jumpImmOp}
 use Rattle.insns.specs.declared.Made.{Made}
 use Rattle.insns.specs.declared.op.Arith.{Arith}

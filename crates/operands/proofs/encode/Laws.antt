@@ -11,7 +11,8 @@ use mir.Syntax.{w64}
 use mir.Val.{SFits, toZ, ofZ}
 use mir.Facts.{toZ-ofZ}
 use Rattle.insns.proofs.Table.{and-true, past}
-use Rattle.insns.specs.Fields.{make, wordIf, twos, rawBits}
+use Rattle.insns.specs.Fields.{make, wordIf, rawBits}
+use Rattle.insns.specs.Bits.{twos}
 use Rattle.insns.specs.Insns.{formAt}
 use Rattle.insns.specs.declared.Made.{Made}
 use Rattle.insns.specs.declared.op.Form.{Form}

@@ -10,7 +10,8 @@ use mir.Syntax.{w64}
 use mir.Val.{Fits, toZ, ofZ}
 use mir.ValLaws.{ofZ-toZ}
 use native.Mathlib.Decide.{decLt}
-use Rattle.insns.specs.Fields.{Field, u, s, raw, allFit, make, madeNumber, twos, rawBits}
+use Rattle.insns.specs.Fields.{Field, u, s, raw, allFit, make, madeNumber, rawBits}
+use Rattle.insns.specs.Bits.{twos}
 use Rattle.insns.specs.Insns.{formAt, opOf, fieldsOf, madeOf, arithOp, ifOp, jumpOp, jumpImmOp}
 use Rattle.insns.specs.declared.Made.{Made}
 use Rattle.insns.specs.declared.Insn.{Insn}

@@ -7,7 +7,7 @@ use mir.Syntax.{w64}
 use mir.Val.{toZ}
 use Rattle.faults.specs.Numbers.{wrongKind, notExact}
 use Rattle.float.specs.Float as F
-use Rattle.float.specs.Float.{read}
+use Rattle.float.specs.Bits.{read}
 use Rattle.int64.specs.Int as I
 use Rattle.int64.specs.Int.{Outcome}
 use Rattle.int64.specs.declared.Op as IntOp

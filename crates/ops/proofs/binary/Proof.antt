@@ -1,6 +1,6 @@
 -- `binary` meets its contract: by the kind that an arm knows. Assumes nothing.
 use borrow.Author.Tests.{ne-eqb}
-use Rattle.ops.specs.Ops.{operateOf}
+use Rattle.ops.specs.Arith.{operateOf}
 use borrow.Author.Needs.{needs}
 use Rattle.ops.proofs.binary.Statement.{statement}
 use Rattle.ops.proofs.binary.Tie as tie

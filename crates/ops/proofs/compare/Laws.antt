@@ -13,7 +13,7 @@ use Rattle.int64.specs.Order.{orderZ, holds}
 use Rattle.int64.specs.declared.order.Cmp.{Cmp}
 use Rattle.float.specs.Float as F
 use Rattle.float.specs.Order.{order}
-use Rattle.float.specs.Float.{read}
+use Rattle.float.specs.Bits.{read}
 use Rattle.float.specs.declared.Whole.{Whole}
 use Rattle.float.specs.declared.Whole.the-variants.{Is, Wide}
 use Rattle.value.specs.Value.{Datum, kindOf, payloadOf}

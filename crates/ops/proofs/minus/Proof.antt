@@ -1,5 +1,5 @@
 -- `minus` meets its contract: Mul by Int -1. Assumes nothing.
-use Rattle.ops.specs.Ops.{operateOf}
+use Rattle.ops.specs.Arith.{operateOf}
 use borrow.Author.Needs.{needs}
 use Rattle.ops.proofs.minus.Statement.{statement}
 use Rattle.ops.proofs.minus.Tie as tie

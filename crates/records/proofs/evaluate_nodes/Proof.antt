@@ -42,7 +42,7 @@ use Rattle.records.specs.Records.{flattened}
 use Rattle.records.specs.Prefix.{evaluateFront}
 use Rattle.records.specs.declared.Node.{Node}
 use Rattle.records.proofs.Node as T
-use Rattle.ops.specs.Ops.{resultOf}
+use Rattle.value.specs.Answer.{resultOf}
 use Rattle.value.specs.declared.answer.Answer.{Answer}
 use Rattle.value.proofs.answer.Answer as Ans
 use Rattle.value.proofs.answer.Answer.Laws as Ans′

@@ -15,7 +15,7 @@ use Rattle.faults.specs.Numbers.{badShape, noRoom}
 use Rattle.faults.proofs.Faults.{none-both, failed, pass, stop}
 use Rattle.table.specs.Table.{checkOf}
 use Rattle.table.specs.declared.Dest.{Dest}
-use Rattle.ops.specs.Ops.{Result, fault as faulted}
+use Rattle.value.specs.Answer.{Result, fault as faulted}
 use Rattle.eval.specs.Evaluate.{unless, evaluateOf}
 use Rattle.emit.specs.State.{fail}
 use Rattle.compile.specs.Compile.{compileOf}

@@ -4,7 +4,7 @@ use Prim.Native.Nat.{ℕ, zero, suc, _-_}
 use native.Mathlib.Omega.{arith}
 use Rattle.table.specs.declared.Dest.the-variants.{None, Reg}
 use Rattle.value.specs.Value.{meaning, kindOf, payloadOf}
-use Rattle.ops.specs.Ops.{resultOf}
+use Rattle.value.specs.Answer.{resultOf}
 use Rattle.value.specs.declared.Value.{Value}
 use Rattle.value.specs.declared.answer.Answer.{Answer}
 use Rattle.value.specs.declared.answer.Answer.the-variants as A

@@ -4,7 +4,8 @@ use mathlib.Core.Bool.{true, false}
 use borrow.Author.Needs.{needs}
 use mir.Syntax.{w64}
 use mir.Val.{toZ, ofZ}
-use Rattle.insns.specs.Fields.{twos, isRaw, rawBits}
+use Rattle.insns.specs.Bits.{twos, isRaw}
+use Rattle.insns.specs.Fields.{rawBits}
 use Rattle.insns.proofs.fields.raw_bits.Statement.{statement}
 use Rattle.insns.proofs.fields.raw_bits.Tie as tie
 
