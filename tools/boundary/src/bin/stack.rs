@@ -4,9 +4,9 @@
 //! The most is printed for some depths, over chains of one kind, of two kinds
 //! and of several mixed at random, and for some numbers of nodes.
 //!     stack [random chains for each row]
-//!     objdump -d --no-show-raw-insn --demangle stack | stack frames
-//! Prints the frame of each function, and for those that do not recurse the
-//! deepest way of calls.
+//!     objdump -d --no-show-raw-insn --demangle LINKED | stack frames
+//! Prints the frame of each function that the exported ones reach, and the
+//! deepest way of calls from each of those.
 use boundary::{shapes, Made, Room};
 use std::arch::asm;
 use std::collections::BTreeMap;
@@ -225,15 +225,22 @@ fn frames() {
     }
     reached.sort_by_key(|n| all.get(n).map_or(0, |f| -f.most));
     for n in reached { if let Some(f) = all.get(&n) { println!("{:6} {n}", f.most) } }
-    for r in roots {
-        match deepest(&all, &r, &mut vec![]) {
-            Some((bytes, way)) => println!("{r}: no recursion, {bytes} bytes at most: {}", way.join(" > ")),
+    let mut over = 0;
+    for r in &roots {
+        let most = match deepest(&all, r, &mut vec![]) {
+            Some((bytes, way)) => { println!("{r}: no recursion, {bytes} bytes at most: {}", way.join(" > ")); bytes }
             None => {
-                let (before, level, below, cycle) = recursion(&all, &r);
-                println!("{r}: {before} before and {below} below the recursion, {level} a level ({}): {} bytes at most at depth {MAX_DEPTH}", cycle.join(" + "), before + MAX_DEPTH as i64 * level + below);
+                let (before, level, below, cycle) = recursion(&all, r);
+                let bytes = before + MAX_DEPTH as i64 * level + below;
+                println!("{r}: {before} before and {below} below the recursion, {level} a level ({}): {bytes} bytes at most at depth {MAX_DEPTH}", cycle.join(" + "));
+                bytes
             }
-        }
+        };
+        // what is not named reserves as much as a run
+        let told = RESERVE[NAMES.iter().position(|n| *r == format!("vosemaqe_{n}")).unwrap_or(3)];
+        if most > told as i64 { println!("{r}: more than the {told} that a caller reserves"); over += 1 }
     }
+    runner::finish(format!("frames: {} functions, {over} over what docs/STACK.md tells a caller", roots.len()), over)
 }
 
 /// For a function that recurses: the bytes before the first of the functions
