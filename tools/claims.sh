@@ -58,14 +58,15 @@ awk -v index_file="$index" -v claims="$claims" '
             delete at
             if (c in crate) { if ((c, f) in file) at[c] = 1; else bad("no " f " in crate " c) }
             else if (whole) {
-                for (k in section) if ((k, f) in file) at[k] = 1
+                for (k in section) if (section[k] && (k, f) in file) at[k] = 1
                 ok = 0; for (k in at) ok = 1
                 if (!ok) bad("no " f " in a crate of the section")
             }
             if (!whole) continue
             # names in brackets before it: `a`, `b` (crate specs/File)
             b = before
-            if (sub(/ \([a-z0-9_]+ $/, "", b)) while (match(b, /`[^` ]+`(, | and )?$/)) { name = substr(b, RSTART + 1); sub(/`.*/, "", name); defined(name, f); b = substr(b, 1, RSTART - 1) }
+            if (sub(/ \([a-z0-9_]+ $/, "", b))
+                while (match(b, /`[^` ]+`(, | and )?$/)) { name = substr(b, RSTART + 1); sub(/`.*/, "", name); defined(name, f); b = substr(b, 1, RSTART - 1) }
             names(before)
             # names that follow at once
             while (match(t, /^( and |[ ,])*`[^` ]+`/)) { name = substr(t, 1, RLENGTH); t = substr(t, RLENGTH + 1); gsub(/^[^`]*`|`$/, "", name); defined(name, f) }
@@ -101,7 +102,10 @@ awk -v index_file="$index" -v claims="$claims" '
         for (i = 1; i <= n; i++) {
             l = part[i]; gsub(/^ +| +$/, "", l)
             if (l == "" || l == "-") continue
-            if (match(l, /^[a-z0-9_]+: /)) { c = substr(l, 1, RLENGTH - 2); l = substr(l, RLENGTH + 1); if (!(c in crate)) { if (strict) bad("no crate " c); c = "" } }
+            if (match(l, /^[a-z0-9_]+: /)) {
+                c = substr(l, 1, RLENGTH - 2); l = substr(l, RLENGTH + 1)
+                if (!(c in crate)) { if (strict) bad("no crate " c); c = "" }
+            }
             if (!strict) { if (!match(l, /^[a-z0-9]+_[a-z0-9_]+/)) continue; l = substr(l, 1, RLENGTH); if (!(l in where)) continue }
             if (c != "" && ((c, l) in edit)) { told[c, l] = 1; continue }
             if (c != "" || !(l in where)) { bad("no edit " (c == "" ? "" : c ": ") l); continue }
@@ -115,7 +119,10 @@ awk -v index_file="$index" -v claims="$claims" '
         if (para ~ /^ *- edits?: / && whole) { sub(/^[^:]*: /, "", para); labels(para, 1) }
         else if (para != "") {
             # the crates of a section are those that its first lines name
-            if (para ~ /^Crates? /) { t = para; while (match(t, /`[a-z0-9_]+(::[a-z0-9_]+)*`/)) { c = substr(t, RSTART + 1, RLENGTH - 2); sub(/::.*/, "", c); if (c in crate) section[c] = 1; t = substr(t, RSTART + RLENGTH) } }
+            if (para ~ /^Crates? /) {
+                t = para
+                while (match(t, /`[a-z0-9_]+(::[a-z0-9_]+)*`/)) { c = substr(t, RSTART + 1, RLENGTH - 2); sub(/::.*/, "", c); section[c] = c in crate; t = substr(t, RSTART + RLENGTH) }
+            }
             look(para)
         }
         para = ""
@@ -143,7 +150,10 @@ awk -v index_file="$index" -v claims="$claims" '
     { if (para == "") line = FNR; sub(/^ +/, ""); para = para == "" ? $0 : para " " $0 }
     END {
         flush()
-        for (i = 1; i <= nedits; i++) { split(edits[i], e, " "); if (!((e[1], e[2]) in told)) { printf "%s: names no edit %s: %s\n", claims, e[1], e[2]; wrong++ } }
+        for (i = 1; i <= nedits; i++) {
+            split(edits[i], e, " ")
+            if (!((e[1], e[2]) in told)) { printf "%s: names no edit %s: %s\n", claims, e[1], e[2]; wrong++ }
+        }
         printf "claims: %d edits of the tree, %d places of the documents not as the tree is\n", nedits, wrong
         exit wrong > 0
     }' "$index" "$claims" README.md $(ls docs/*.md | grep -v -e CLAIMS -e '/0[12]-') tools/*.md tools/*/README.md
