@@ -43,19 +43,19 @@ fn shapes_of(f: Form) -> Shapes
     ensures { λ r. ⌜ r ≡ shapesOf f ⌝ }
 {
     let none = Shape::Plain(1);
-    let reg = Shape::Plain(65536);
-    let six = Shape::Plain(64);
-    let byte = Shape::Plain(256);
-    let twelve = Shape::Plain(4096);
-    let wide = Shape::Plain(16777216);
-    let lit = Shape::Twos(32768);
-    let near = Shape::Twos(8388608);
-    let far = Shape::Twos(2147483648);
+    let reg = Shape::Plain(SIZE_16);
+    let six = Shape::Plain(SIZE_6);
+    let byte = Shape::Plain(SIZE_8);
+    let twelve = Shape::Plain(SIZE_12);
+    let wide = Shape::Plain(SIZE_24);
+    let lit = Shape::Twos(HALF_16);
+    let near = Shape::Twos(HALF_24);
+    let far = Shape::Twos(HALF_32);
     match f {
         Form::Bare(_) => five(none, none, none, none, none),
         Form::LoadImm40 => five(reg, Shape::Raw, none, none, none),
         Form::Two(_) => five(reg, reg, none, none, none),
-        Form::Slot(_) => five(reg, Shape::Plain(4294967296), none, none, none),
+        Form::Slot(_) => five(reg, Shape::Plain(SIZE_32), none, none, none),
         Form::Three(_) => five(reg, reg, reg, none, none),
         Form::Shift(_) => five(reg, reg, six, none, none),
         Form::BitAndMask => five(reg, reg, six, six, none),
@@ -86,7 +86,7 @@ fn size_of(s: Shape) -> u64
     match s {
         Shape::Plain(m) => m,
         Shape::Twos(h) => 2 * h,
-        Shape::Raw => 1099511627776,
+        Shape::Raw => SIZE_40,
     }
 }
 
