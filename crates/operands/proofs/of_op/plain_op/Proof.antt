@@ -1,11 +1,11 @@
--- `parts_of` meets its contract: each arm knows the instruction, and hands on its opcode and operands. Assumes nothing.
+-- `plain_op` meets its contract: each arm knows the instruction, and hands on its opcode and operands.
 use borrow.Author.Needs.{needs}
-use Rattle.operands.proofs.of_op.Laws.{parts-at}
-use Rattle.operands.proofs.of_op.parts_of.Statement.{statement}
-use Rattle.operands.proofs.of_op.parts_of.Tie as tie
+use Rattle.operands.proofs.of_op.Laws.{plain-at}
+use Rattle.operands.proofs.of_op.plain_op.Statement.{statement}
+use Rattle.operands.proofs.of_op.plain_op.Tie as tie
 
-pub parts-of-spec : {M : Type 1} → statement M
-parts-of-spec =
+pub plain-op-spec : {M : Type 1} → statement M
+plain-op-spec =
     tie.close
     (tie.spec
     (λ c. search needs)
@@ -126,26 +126,26 @@ parts-of-spec =
     (λ c. search needs)
     (λ c κs. search needs)
     (λ c κs. search needs)
-    (λ c. parts-at (c .before .before .before .i .given .1) (rw (c .before .bare-op .ensures) at (c .of .ensures)))
-    (λ c. parts-at (c .before .before .before .i2 .given .1) (rw (c .before .imm40 .ensures) at (c .of2 .ensures)))
-    (λ c. parts-at (c .before .before .before .i3 .given .1) (rw (c .before .two-op .ensures) at (c .of3 .ensures)))
-    (λ c. parts-at (c .before .before .before .i4 .given .1) (rw (c .before .slot-op .ensures) at (c .of4 .ensures)))
-    (λ c. parts-at (c .before .before .before .i5 .given .1) (rw (c .before .three-op .ensures) at (c .of5 .ensures)))
-    (λ c. parts-at (c .before .before .before .i6 .given .1) (rw (c .before .shift-op .ensures) at (c .of6 .ensures)))
-    (λ c. parts-at (c .before .before .i7 .given .1) (c .of7 .ensures))
-    (λ c. parts-at (c .before .before .i8 .given .1) (c .of8 .ensures))
-    (λ c. parts-at (c .before .before .before .before .i9 .given .1) (rw (c .before .before .arith-op .ensures, c .before .imm16 .ensures) at (c .of9 .ensures)))
-    (λ c. parts-at (c .before .before .i10 .given .1) (c .of10 .ensures))
-    (λ c. parts-at (c .before .before .i11 .given .1) (c .of11 .ensures))
-    (λ c. parts-at (c .before .before .i12 .given .1) (c .of12 .ensures))
-    (λ c. parts-at (c .before .before .before .i13 .given .1) (rw (c .before .one-op .ensures) at (c .of13 .ensures)))
-    (λ c. parts-at (c .before .before .before .i14 .given .1) (rw (c .before .wide-op .ensures) at (c .of14 .ensures)))
-    (λ c. parts-at (c .before .before .before .before .i15 .given .1) (rw (c .before .before .if-op .ensures, c .before .disp .ensures) at (c .of15 .ensures)))
-    (λ c. parts-at (c .before .before .before .before .i16 .given .1) (rw (c .before .before .jump-op .ensures, c .before .disp2 .ensures) at (c .of16 .ensures)))
-    (λ c. parts-at (c .before .before .before .before .before .i17 .given .1) (rw (c .before .before .before .jump-imm-op .ensures, c .before .before .imm162 .ensures, c .before .disp3 .ensures) at (c .of17 .ensures)))
-    (λ c. parts-at (c .before .before .before .i18 .given .1) (rw (c .before .disp4 .ensures) at (c .of18 .ensures)))
-    (λ c. parts-at (c .before .before .before .i19 .given .1) (rw (c .before .call-op .ensures) at (c .of19 .ensures)))
-    (λ c. parts-at (c .before .before .i20 .given .1) (c .of20 .ensures))
-    (λ c. parts-at (c .before .before .before .i21 .given .1) (rw (c .before .by-id-op .ensures) at (c .of21 .ensures)))
-    (λ c. parts-at (c .before .before .i22 .given .1) (c .of22 .ensures))
-    (λ c. parts-at (c .before .before .before .i23 .given .1) (rw (c .before .imm402 .ensures) at (c .of23 .ensures))))
+    (λ c. plain-at (c .before .before .before .i .given .1) (rw (c .before .bare-op .ensures) at (c .plain .ensures)))
+    (λ c. plain-at (c .before .before .before .i2 .given .1) (rw (c .before .imm40 .ensures) at (c .plain2 .ensures)))
+    (λ c. plain-at (c .before .before .before .i3 .given .1) (rw (c .before .two-op .ensures) at (c .plain3 .ensures)))
+    (λ c. plain-at (c .before .before .before .i4 .given .1) (rw (c .before .slot-op .ensures) at (c .plain4 .ensures)))
+    (λ c. plain-at (c .before .before .before .i5 .given .1) (rw (c .before .three-op .ensures) at (c .plain5 .ensures)))
+    (λ c. plain-at (c .before .before .before .i6 .given .1) (rw (c .before .shift-op .ensures) at (c .plain6 .ensures)))
+    (λ c. plain-at (c .before .before .i7 .given .1) (c .plain7 .ensures))
+    (λ c. plain-at (c .before .before .i8 .given .1) (c .plain8 .ensures))
+    (λ c. plain-at (c .before .before .before .before .i9 .given .1) (rw (c .before .before .arith-op .ensures, c .before .imm16 .ensures) at (c .plain9 .ensures)))
+    (λ c. plain-at (c .before .before .i10 .given .1) (c .plain10 .ensures))
+    (λ c. plain-at (c .before .before .i11 .given .1) (c .plain11 .ensures))
+    (λ c. plain-at (c .before .before .i12 .given .1) (c .plain12 .ensures))
+    (λ c. plain-at (c .before .before .before .i13 .given .1) (rw (c .before .one-op .ensures) at (c .plain13 .ensures)))
+    (λ c. plain-at (c .before .before .before .i14 .given .1) (rw (c .before .wide-op .ensures) at (c .plain14 .ensures)))
+    (λ c. plain-at (c .before .before .before .before .i15 .given .1) (rw (c .before .before .if-op .ensures, c .before .disp .ensures) at (c .plain15 .ensures)))
+    (λ c. plain-at (c .before .before .before .before .i16 .given .1) (rw (c .before .before .jump-op .ensures, c .before .disp2 .ensures) at (c .plain16 .ensures)))
+    (λ c. plain-at (c .before .before .before .before .before .i17 .given .1) (rw (c .before .before .before .jump-imm-op .ensures, c .before .before .imm162 .ensures, c .before .disp3 .ensures) at (c .plain17 .ensures)))
+    (λ c. plain-at (c .before .before .before .i18 .given .1) (rw (c .before .disp4 .ensures) at (c .plain18 .ensures)))
+    (λ c. plain-at (c .before .before .before .i19 .given .1) (rw (c .before .call-op .ensures) at (c .plain19 .ensures)))
+    (λ c. plain-at (c .before .before .i20 .given .1) (c .plain20 .ensures))
+    (λ c. plain-at (c .before .before .before .i21 .given .1) (rw (c .before .by-id-op .ensures) at (c .plain21 .ensures)))
+    (λ c. plain-at (c .before .before .i22 .given .1) (c .plain22 .ensures))
+    (λ c. plain-at (c .before .before .before .i23 .given .1) (rw (c .before .imm402 .ensures) at (c .plain23 .ensures))))
