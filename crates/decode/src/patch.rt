@@ -30,12 +30,12 @@ const AFTER_TWO: u64 = SIZE_OPCODE * SIZE_16 * SIZE_16;
 const FAR_TARGET: u64 = 1 << 62;
 
 // A displacement, if 32 bits hold it.
-pub enum Reach {
+enum Reach {
     By(Disp),
     Far,
 }
 
-// A branch without its displacement.
+// A branch without its displacement, as the proofs speak of it: the code changes a branch word as a number.
 pub enum Branch {
     If(Sense, u16),
     Jump(Cmp, u16, u16),
@@ -182,7 +182,8 @@ fn is_done(answer: Patched) -> bool
 // Aims the branches at a list of positions, from the first to the last, at one target. One that fails stops it: those before it stay patched, it
 // and those after it are as they were.
 pub fn patch_jumps(words: &mut [u64], jumps: &[u64], target: u64) -> Patched
-    ensures { λ r. ⌜ (r ≡ patchAll (now (words .entry)) (now (jumps .entry)) target .answer) × (now (words .exit) ≡ patchAll (now (words .entry)) (now (jumps .entry)) target .words) ⌝ }
+    ensures { λ r. ⌜ (r ≡ patchAll (now (words .entry)) (now (jumps .entry)) target .answer)
+        × (now (words .exit) ≡ patchAll (now (words .entry)) (now (jumps .entry)) target .words) ⌝ }
 {
     let mut i = 0;
     while i < jumps.len() {

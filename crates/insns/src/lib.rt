@@ -2,7 +2,7 @@
 pub mod bits;
 pub mod encode;
 pub mod fields;
-pub mod forms;
+mod forms;
 pub mod op;
 
 ghost use mathlib.Core.Path.{_≡_};

@@ -22,14 +22,14 @@ ghost use Rattle.operands.specs.Encode.{encodeOf};
 ghost use Rattle.operands.specs.Shapes.{sizeOf, bitsOf, shapes, shapesOf, Narrow};
 
 // A field: of so many numbers from 0, a signed one by half its size, or the raw bits of a value.
-pub enum Shape {
+enum Shape {
     Unsigned(u64),
     Signed(u64),
     Raw,
 }
 
 // The fields of a form.
-pub struct Shapes {
+struct Shapes {
     pub a: Shape,
     pub b: Shape,
     pub c: Shape,

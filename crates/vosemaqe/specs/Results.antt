@@ -15,8 +15,8 @@ use Rattle.faults.specs.Numbers.{undecoded, noFit}
 use Rattle.insns.specs.declared.Insn.{Insn}
 use Rattle.insns.specs.declared.Made.{Made}
 use Rattle.decode.specs.declared.Decoded.{Decoded}
-use Rattle.operands.specs.OfOp.{partsOf}
-use Rattle.operands.specs.declared.of_op.Parts.{Parts}
+use Rattle.operands.specs.OfOp.{plainOp}
+use Rattle.operands.specs.declared.of_op.PlainOp.{PlainOp}
 use Rattle.vosemaqe.specs.declared.results.Report.{Report}
 use Rattle.vosemaqe.specs.declared.results.Found.{Found}
 use Rattle.vosemaqe.specs.declared.results.Shown.{Shown}
@@ -57,11 +57,11 @@ foundOf (Answer.fault n) = found n 0 0
 abbrev pub shown : ℕ → ℕ → ℕ → ℕ → ℕ → ℕ → ℕ → Shown
 shown n o a b c d e = record { number = n; opcode = o; a = a; b = b; c = c; d = d; e = e }
 
-abbrev pub shownAs : Parts → Shown
+abbrev pub shownAs : PlainOp → Shown
 shownAs p = shown 0 (p .opcode) (p .a) (p .b) (p .c) (p .d) (p .e)
 
 abbrev pub shownOf : Decoded → Shown
-shownOf (Decoded.Is i) = shownAs (partsOf i)
+shownOf (Decoded.Is i) = shownAs (plainOp i)
 shownOf Decoded.Bad = shown undecoded 0 0 0 0 0 0
 
 abbrev pub coined : ℕ → ℕ → Coined

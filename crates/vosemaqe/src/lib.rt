@@ -221,5 +221,5 @@ pub extern "C" fn vosemaqe_patch(words: &mut [u64], at: usize, target: u64) -> u
     ensures { λ r. ⌜ (r ≡ patchedNumber (patchOf (now (words .entry)) at target .answer)) × (now (words .exit) ≡ patchOf (now (words .entry)) at target .words) ⌝ }
 {
     let p = decode::patch::patch(words, at, target);
-    crate::results::patched_number(p)
+    decode::patch::number_of(p)
 }

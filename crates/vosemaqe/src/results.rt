@@ -1,13 +1,11 @@
 // How the answers of the crates below stand as numbers, one for each cell of a caller's: the number of the answer, and 0 in every cell wherever it is not 0.
 use compile::buffers::Compiled;
 use decode::Decoded;
-use decode::patch::Patched;
 use insns::Made;
 use table::Dest;
 use value::answer::Answer;
 ghost use mathlib.Core.Path.{_≡_};
 ghost use Rattle.value.specs.Answer.{resultOf};
-ghost use Rattle.decode.specs.Patch.{patchedNumber};
 ghost use Rattle.vosemaqe.specs.Results.{destOf, reportOf, foundOf, shownOf, coinedOf};
 
 // What compiling leaves: the number, and the cells.
@@ -96,7 +94,7 @@ pub fn shown_of(d: Decoded) -> Shown
 {
     match d {
         Decoded::Is(i) => {
-            let p = operands::of_op::parts_of(i);
+            let p = operands::of_op::plain_op(i);
             Shown {
                 number: faults::NONE,
                 opcode: p.opcode,
@@ -131,17 +129,5 @@ pub fn coined_of(m: Made) -> Coined
             number: faults::NO_FIT,
             word: 0,
         },
-    }
-}
-
-pub fn patched_number(p: Patched) -> u8
-    ensures { λ r. ⌜ r ≡ patchedNumber p ⌝ }
-{
-    match p {
-        Patched::Done => faults::NONE,
-        Patched::NoWord => faults::NO_WORD,
-        Patched::Undecoded => faults::UNDECODED,
-        Patched::NotBranch => faults::NOT_BRANCH,
-        Patched::TooFar => faults::TOO_FAR,
     }
 }

@@ -15,8 +15,8 @@ use Rattle.insns.specs.declared.Insn.{Insn}
 use Rattle.insns.specs.declared.Made.{Made}
 use Rattle.insns.specs.declared.op.Op.{Op}
 use Rattle.decode.specs.declared.Decoded.{Decoded}
-use Rattle.operands.specs.OfOp.{partsOf}
-use Rattle.operands.specs.declared.of_op.Parts.{Parts}
+use Rattle.operands.specs.OfOp.{plainOp}
+use Rattle.operands.specs.declared.of_op.PlainOp.{PlainOp}
 use Rattle.vosemaqe.specs.Results.{destOf, report, reportOf, found, foundOf, shown, shownAs, shownOf, coined, coinedOf}
 
 -- ---- a destination
@@ -46,7 +46,7 @@ found-is e f g = rw (e, f, g)
 pub found-fault : {a : Answer} {n : ℕ} → a ≡ A.Fault n → found n 0 0 ≡ foundOf (resultOf a)
 found-fault e = rw e
 
-pub shown-is : {d : Decoded} {i : Op} {p : Parts} → d ≡ Decoded.Is i → p ≡ partsOf i → shownAs p ≡ shownOf d
+pub shown-is : {d : Decoded} {i : Op} {p : PlainOp} → d ≡ Decoded.Is i → p ≡ plainOp i → shownAs p ≡ shownOf d
 shown-is {i = i} e f = ap shownAs f ∙ ap shownOf (sym e)
 
 pub shown-bad : {d : Decoded} → d ≡ Decoded.Bad → shown undecoded 0 0 0 0 0 0 ≡ shownOf d
