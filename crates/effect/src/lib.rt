@@ -309,7 +309,8 @@ pub fn effect_of(
     slot_kinds: &[u8],
     slot_payloads: &[u64],
 ) -> Effect
-    ensures { λ r. ⌜ asked r ≡ Fx.effectOf (held (now (kinds .entry)) (now (payloads .entry))) (held (now («slot_kinds» .entry)) (now («slot_payloads» .entry))) i ⌝ }
+    ensures { λ r. ⌜ asked r
+        ≡ Fx.effectOf (held (now (kinds .entry)) (now (payloads .entry))) (held (now («slot_kinds» .entry)) (now («slot_payloads» .entry))) i ⌝ }
 {
     match i {
         Op::Bare(k) => bare(k),

@@ -1,4 +1,4 @@
--- Lent lists of pairs do as the values that they lend do: `lent-run`. Assumes nothing.
+-- Lent lists of pairs do as the values that they lend do: `lent-run`.
 use mathlib.Core.Path.{_≡_, refl, sym, ap, subst, _∙_, fun-ext}
 use mathlib.Core.Bool.{Bool, true, false, cond}
 use mathlib.Core.List.{List}
@@ -9,12 +9,11 @@ use lib.IntN.{ℤ}
 use lib.ListN.{length, getD, set, length-set}
 use lib.Seq.{getD-set-same, getD-set-other}
 use borrow.Author.Tests.{lt-ltb, le-ltb, ltb-true, ltb-false, eqb-true, eqb-false}
-use Rattle.decode.specs.Decode.{decodeOf}
 use Rattle.value.specs.Value.{Datum, nil, kindOf, payloadOf, well, ofPair}
 use Rattle.value.specs.Answer.{Result, is, fault}
 use Rattle.value.proofs.RoundTrip.{Holds, pair-back}
 use Rattle.effect.specs.Effect.{Effect, size, held, ofRead}
-use Rattle.machine.specs.Step.{Next, go, put, stop, settleOf, decodedOf, wordOf, After, after, lent, stepOf}
+use Rattle.machine.specs.Step.{Next, go, put, stop, settleOf, wordEffect, After, after, lent, stepOf}
 use Rattle.machine.specs.Run.{Out, out, ran, runFrom}
 use Rattle.machine.specs.Datums.{valueAt, nextOf, End, end, valuesFrom}
 use Rattle.machine.specs.declared.step.Stepped.{Stepped}
@@ -75,12 +74,12 @@ module _ {ks ps : List ℕ} {rs : List Datum} (l : Lends ks ps rs) (d : ℕ) (v 
 
 module _ {ks ps sks sps : List ℕ} {rs ss : List Datum} (l : Lends ks ps rs) (m : Lends sks sps ss) where
   pub same-step : (ws : List ℕ) (at : ℕ) → stepOf ws sks sps at ks ps ≡ lent ks ps (nextOf ws ss at rs)
-  unfolding stepOf wordOf nextOf
+  unfolding stepOf nextOf
   same-step ws at = rw (l .count, fun-ext (l .reads), fun-ext (m .reads))
 
   pub same-put : (ws : List ℕ) (at : ℕ) → Put (length rs) (nextOf ws ss at rs)
   unfolding nextOf
-  same-put ws at = settled (length ws) (length rs) at (decodedOf (valueAt rs) (valueAt ss) (decodeOf (getD ws at 0))) (fine-word (valueAt rs) (valueAt ss) (l .fine) (m .fine) (getD ws at 0))
+  same-put ws at = settled (length ws) (length rs) at (wordEffect (valueAt rs) (valueAt ss) (getD ws at 0)) (fine-word (valueAt rs) (valueAt ss) (l .fine) (m .fine) (getD ws at 0))
 
 -- ---- a run: the same report, and the lists at the end lend the values at the end
 

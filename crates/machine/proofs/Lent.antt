@@ -1,4 +1,4 @@
--- Two lists of well-formed pairs lend the values that they hold (`lends`), so a run over lent lists is the run over values (`run-is`). Assumes nothing.
+-- Two lists of well-formed pairs lend the values that they hold (`lends`), so a run over lent lists is the run over values (`run-is`).
 use mathlib.Core.Path.{_≡_, refl, sym, ap, _∙_}
 use mathlib.Core.Bool.{Bool, true, false, cond}
 use mathlib.Core.List.{List, [], _∷_}

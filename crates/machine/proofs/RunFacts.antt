@@ -1,4 +1,4 @@
--- What follows from the definition of a run: it is determined, it is a step and then a run, and a register that no word writes keeps its contents. Assumes nothing.
+-- What follows from the definition of a run: it is determined, it is a step and then a run, and a register that no word writes keeps its contents.
 use mathlib.Core.Path.{_≡_, refl, sym, _∙_}
 use mathlib.Core.Bool.{Bool, true, false, cond}
 use mathlib.Core.List.{List}
@@ -13,9 +13,8 @@ use borrow.Author.Tests.{lt-ltb, ltb-true}
 use Rattle.faults.specs.Numbers.{outOfRange}
 use Rattle.value.specs.Value.{Datum, nil, bool, int, float, kindOf, payloadOf}
 use Rattle.value.specs.Answer.{Result, is, fault}
-use Rattle.decode.specs.Decode.{decodeOf}
 use Rattle.effect.specs.Effect.{Effect, write, branch, next, halt, size, held}
-use Rattle.machine.specs.Step.{Next, go, put, stop, landAt, landOf, branchOf, putOf, settleOf, decodedOf, wordOf, After, after, lent, stepOf}
+use Rattle.machine.specs.Step.{Next, go, put, stop, landAt, landOf, branchOf, putOf, settleOf, wordEffect, After, after, lent, stepOf}
 use Rattle.machine.specs.Run.{Out, out, ran, runFrom, runOf}
 use Rattle.machine.specs.declared.step.Stepped.{Stepped}
 use Rattle.machine.specs.declared.run.Ran.{Ran}
@@ -42,7 +41,7 @@ module _ (ws sks sps ks ps : List ℕ) (n s at : ℕ) (h : at < length ws) {ks�
 
 -- no word of the code asks for a write to r, whatever it reads
 pub record Spares (ws : List ℕ) (r : ℕ) : Type 0 where
-  pub spares : (at : ℕ) (reg slot : ℕ → Result) (d : ℕ) (x : Result) → decodedOf reg slot (decodeOf (getD ws at 0)) ≡ write d x → d ≡ r → ⊥
+  pub spares : (at : ℕ) (reg slot : ℕ → Result) (d : ℕ) (x : Result) → wordEffect reg slot (getD ws at 0) ≡ write d x → d ≡ r → ⊥
 
 -- what both lists hold at r is what it was
 pub record Kept (r : ℕ) (ks ps ks′ ps′ : List ℕ) : Type 0 where
@@ -111,10 +110,10 @@ module _ (ws sks sps : List ℕ) (r : ℕ) (free : Spares ws r) where
     turn (stop e) h = record { keeps = same }
 
   pub untouched : (n s at : ℕ) (ks ps : List ℕ) → Keeps r ks ps (runFrom ws sks sps n s at ks ps)
-  unfolding runFrom stepOf wordOf
+  unfolding runFrom stepOf
   untouched zero s at ks ps = either (ltb at (length ws)) (record { keeps = same }) (record { keeps = same })
   untouched (suc n) s at ks ps =
       either (ltb at (length ws))
-      (turn n s at ks ps (λ p ks ps. untouched n (suc s) p ks ps) (settleOf (length ws) (size ks ps) at (wordOf ks ps sks sps (getD ws at 0)))
-      (settles r (length ws) (size ks ps) at (wordOf ks ps sks sps (getD ws at 0)) (free .spares at (held ks ps) (held sks sps))))
+      (turn n s at ks ps (λ p ks ps. untouched n (suc s) p ks ps) (settleOf (length ws) (size ks ps) at (wordEffect (held ks ps) (held sks sps) (getD ws at 0)))
+      (settles r (length ws) (size ks ps) at (wordEffect (held ks ps) (held sks sps) (getD ws at 0)) (free .spares at (held ks ps) (held sks sps))))
       (record { keeps = same })

@@ -1,4 +1,4 @@
--- A run, turn by turn: what is left of it gives the whole answer. And its checks before the first step. Assumes nothing.
+-- A run, turn by turn: what is left of it gives the whole answer. And its checks before the first step.
 use mathlib.Core.Path.{_≡_, sym, ap, subst}
 use mathlib.Core.Bool.{Bool, true, false, not, cond, _&&_}
 use mathlib.Core.List.{List}

@@ -1,4 +1,4 @@
--- What `step` has to show, over plain values: where a taken branch lands, and what a write leaves. Assumes nothing.
+-- What `step` has to show, over plain values: where a taken branch lands, and what a write leaves.
 use mathlib.Core.Path.{_≡_, refl, sym, subst, ap, _∙_}
 use mathlib.Core.Bool.{Bool, true, false, cond}
 use mathlib.Core.List.{List}
@@ -26,10 +26,12 @@ use Rattle.value.specs.Answer.{Result, is, fault, resultOf}
 use Rattle.value.specs.declared.Value.{Value}
 use Rattle.value.specs.declared.answer.Answer.{Answer}
 use Rattle.value.specs.declared.answer.Answer.the-variants as A
-use Rattle.effect.specs.Effect.{Effect, halt, asked, size, held, effectOf}
+use Rattle.effect.specs.Effect.{Effect, halt, size, held, effectOf}
+use Rattle.effect.specs.Forms.{asked}
 use Rattle.effect.specs.declared.Effect as E
 use Rattle.effect.specs.declared.Effect.the-variants as Fx
-use Rattle.machine.specs.Step.{Next, go, put, stop, landAt, landOf, toldOf, putOf, branchOf, writeOf, settleOf, decodedOf, wordOf, After, after, lent, stepOf}
+use Rattle.machine.specs.Step.{Next, go, put, stop, landAt, landOf, branchOf, writeOf, settleOf, decodedOf, wordEffect, After, after, lent, stepOf}
+use Rattle.machine.specs.Parts.{toldOf}
 use Rattle.machine.specs.declared.step.Stepped.{Stepped}
 
 -- ---- where a branch lands
@@ -168,23 +170,25 @@ module _ (ks ps : List ℕ) where
   -- ---- a word, and the step at a position
 
   module _ (sks sps : List ℕ) where
-    pub word-bad : (w : ℕ) {d : Decoded} → d ≡ decodeOf w → d ≡ Decoded.Bad → halt undecoded ≡ wordOf ks ps sks sps w
-    unfolding wordOf
-    word-bad w e f = ap (decodedOf (held ks ps) (held sks sps)) (sym f ∙ e)
-
-    pub word-is : (w : ℕ) {d : Decoded} {i : Op} {x : Effect} → d ≡ decodeOf w → d ≡ Decoded.Is i → x ≡ effectOf (held ks ps) (held sks sps) i → x ≡ wordOf ks ps sks sps w
-    unfolding wordOf
-    word-is w e f q = q ∙ ap (decodedOf (held ks ps) (held sks sps)) (sym f ∙ e)
-
-    pub step-is : (ws : List ℕ) (at : ℕ) {x : After} {f : Effect} → f ≡ wordOf ks ps sks sps (getD ws at 0) → x ≡ lent ks ps (settleOf (length ws) (size ks ps) at f) → x ≡ stepOf ws sks sps at ks ps
+    pub step-is : (ws : List ℕ) (at : ℕ) {x : After} {f : Effect} → f ≡ wordEffect (held ks ps) (held sks sps) (getD ws at 0)
+        → x ≡ lent ks ps (settleOf (length ws) (size ks ps) at f) → x ≡ stepOf ws sks sps at ks ps
     unfolding stepOf
     step-is ws at e q = rw e at q
+
+module _ (reg slot : ℕ → Result) (w : ℕ) {d : Decoded} (e : d ≡ decodeOf w) where
+  pub word-bad : d ≡ Decoded.Bad → halt undecoded ≡ wordEffect reg slot w
+  unfolding wordEffect
+  word-bad f = ap (decodedOf reg slot) (sym f ∙ e)
+
+  pub word-is : {i : Op} {x : Effect} → d ≡ Decoded.Is i → x ≡ effectOf reg slot i → x ≡ wordEffect reg slot w
+  unfolding wordEffect
+  word-is f q = q ∙ ap (decodedOf reg slot) (sym f ∙ e)
 
 -- ---- a stopping step writes nothing
 
 pub stop-keeps : (ws sks sps ks ps : List ℕ) (at n : ℕ) {ks′ ps′ : List ℕ} → stepOf ws sks sps at ks ps ≡ after (Stepped.Stopped n) ks′ ps′ → (ks′ ≡ ks) × (ps′ ≡ ps)
 unfolding stepOf
-stop-keeps ws sks sps ks ps at n {ks′} {ps′} e = by (settleOf (length ws) (size ks ps) at (wordOf ks ps sks sps (getD ws at 0))) e
+stop-keeps ws sks sps ks ps at n {ks′} {ps′} e = by (settleOf (length ws) (size ks ps) at (wordEffect (held ks ps) (held sks sps) (getD ws at 0))) e
   where
     by : (x : Next) → lent ks ps x ≡ after (Stepped.Stopped n) ks′ ps′ → (ks′ ≡ ks) × (ps′ ≡ ps)
     by (go p) e = (cc, cc)

@@ -1,4 +1,4 @@
--- What a step writes is a register's, and has a lent form that reads back as itself. Assumes nothing.
+-- What a step writes is a register's, and has a lent form that reads back as itself.
 use mathlib.Core.Path.{_≡_, refl, sym, subst}
 use mathlib.Core.Bool.{Bool, true, false, cond}
 use mathlib.Core.List.{List}
@@ -36,8 +36,10 @@ use Rattle.value.specs.Value.{Datum, nil, bool, int, float}
 use Rattle.value.specs.Answer.{Result, is, fault}
 use Rattle.ops.specs.Arith.{fromInt, arithOf, wholeOf}
 use Rattle.value.proofs.RoundTrip.{Holds}
-use Rattle.effect.specs.Effect.{Effect, write, branch, next, halt, both, literal, mask, rawOf, inverted, threeKind, arithKind, shiftKind, bareOf, twoOf, slotOf, threeOf, effectOf}
-use Rattle.machine.specs.Step.{Next, go, put, stop, landAt, landOf, branchOf, putOf, settleOf, decodedOf}
+use Rattle.effect.specs.Effect.{Effect, write, branch, next, halt, both, literal, mask, rawOf, inverted, effectOf}
+use Rattle.effect.specs.Forms.{threeKind, arithKind, shiftKind}
+use Rattle.effect.proofs.EffectLaws.{three-form, shift-form, arith-form, if-form, jump-form, jump-imm-form}
+use Rattle.machine.specs.Step.{Next, go, put, stop, landAt, landOf, branchOf, putOf, settleOf, decodedOf, wordEffect}
 use Rattle.ops.proofs.Closed.{Held, picks, exact, as-floats, negates, binaries}
 
 -- ---- an effect's answer
@@ -116,7 +118,6 @@ shifts-imm Shift.Right (is (int a)) n h = shr a n (h .back)
 
 module _ (reg slot : ℕ → Result) (hr : (r : ℕ) → Held (reg r)) (hs : (r : ℕ) → Held (slot r)) where
   fine : (w : ℕ) (i : Op) → decodeOf w ≡ Decoded.Is i → Fine (effectOf reg slot i)
-  unfolding threeOf
   fine w (Op.Bare Bare.Panic) e = tt
   fine w (Op.Bare Bare.Breakpoint) e = tt
   fine w (Op.Bare Bare.Nop) e = tt
@@ -132,19 +133,19 @@ module _ (reg slot : ℕ → Result) (hr : (r : ℕ) → Held (reg r)) (hs : (r 
   fine w (Op.Slot Slot.GetGlobal d a) e = tt
   fine w (Op.Slot Slot.SetGlobal d a) e = tt
   fine w (Op.Slot Slot.ArrNew d a) e = tt
-  fine w (Op.Three k d a b) e = if-run (eqb (threeKind k) 0) (write d (both (threeKind k) (reg a) (reg b))) (boths (threeKind k) (reg a) (reg b) (hr a) (hr b))
-  fine w (Op.Shift k d a n) e = shifts-imm k (reg a) n (hr a)
+  fine w (Op.Three k d a b) e = rw three-form (if-run (eqb (threeKind k) 0) (write d (both (threeKind k) (reg a) (reg b))) (boths (threeKind k) (reg a) (reg b) (hr a) (hr b)))
+  fine w (Op.Shift k d a n) e = rw shift-form (shifts-imm k (reg a) n (hr a))
   fine w (Op.BitAndMask d a lo len) e = boths 8 (reg a) (mask lo len) (hr a) (masks lo len)
   fine w (Op.RshiftMask d a n lo len) e = boths 8 (both 12 (reg a) (literal (pos n))) (mask lo len) (shifts-imm Shift.Right (reg a) n (hr a)) (masks lo len)
-  fine w (Op.Arith k d a z) e = ariths-imm k (reg a) (z .n)
+  fine w (Op.Arith k d a z) e = rw arith-form (ariths-imm k (reg a) (z .n))
   fine w (Op.ClosNew d fun num) e = tt
   fine w (Op.ClosSet clos src idx) e = tt
   fine w (Op.ClosGet d idx) e = tt
   fine w (Op.One k d) e = tt
   fine w (Op.Wide k d val class) e = tt
-  fine w (Op.If k a z) e = tt
-  fine w (Op.Jump k a b z) e = tt
-  fine w (Op.JumpImm k a n z) e = tt
+  fine w (Op.If k a z) e = rw if-form tt
+  fine w (Op.Jump k a b z) e = rw jump-form tt
+  fine w (Op.JumpImm k a n z) e = rw jump-imm-form tt
   fine w (Op.Jmp z) e = tt
   fine w (Op.Call k start argc cache) e = tt
   fine w (Op.CallHost host start argc) e = tt
@@ -156,7 +157,8 @@ module _ (reg slot : ℕ → Result) (hr : (r : ℕ) → Held (reg r)) (hs : (r 
   fines w (Decoded.Is i) e = fine w i e
   fines w Decoded.Bad e = tt
 
-  pub fine-word : (w : ℕ) → Fine (decodedOf reg slot (decodeOf w))
+  pub fine-word : (w : ℕ) → Fine (wordEffect reg slot w)
+  unfolding wordEffect
   fine-word w = fines w (decodeOf w) refl
 
 -- ---- what is put
