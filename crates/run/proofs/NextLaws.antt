@@ -1,4 +1,4 @@
--- The quick step where it is taken, else the general one: the definition's step. Assumes nothing.
+-- The quick step where it is taken, else the general one: the definition's step.
 use mathlib.Core.Path.{_≡_}
 use mathlib.Core.List.{List}
 use Prim.Native.Nat.{ℕ}
