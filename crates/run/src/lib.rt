@@ -77,7 +77,8 @@ fn run_from(
     budget: u64,
 ) -> Ran
     ensures { λ r. ⌜ out r (now (kinds .exit)) (now (payloads .exit))
-        ≡ runFrom (now (words .entry)) (now («slot_kinds» .entry)) (now («slot_payloads» .entry)) budget 0 start (now (kinds .entry)) (now (payloads .entry)) ⌝ }
+        ≡ runFrom (now (words .entry)) (now («slot_kinds» .entry)) (now («slot_payloads» .entry)) budget 0 start
+        (now (kinds .entry)) (now (payloads .entry)) ⌝ }
 {
     let room = least(kinds.len(), payloads.len(), 0x1_0000);
     let slots = least(slot_kinds.len(), slot_payloads.len(), 0x1_0000_0000);
@@ -181,7 +182,8 @@ pub fn run_part(
     budget: u64,
 ) -> Ran
     ensures { λ r. ⌜ out r (now (kinds .exit)) (now (payloads .exit))
-        ≡ runPartOf (now (store .entry)) entry end (now («slot_kinds» .entry)) (now («slot_payloads» .entry)) budget (now (kinds .entry)) (now (payloads .entry)) ⌝ }
+        ≡ runPartOf (now (store .entry)) entry end (now («slot_kinds» .entry)) (now («slot_payloads» .entry)) budget
+        (now (kinds .entry)) (now (payloads .entry)) ⌝ }
 {
     if end < entry {
         return Ran {
