@@ -1,5 +1,4 @@
 -- Plumbing: what the parts of `step` that write nothing answer.
-use Prim.Native.Nat.{ℕ}
 use Rattle.machine.specs.Step.{Next, go, put, stop}
 use Rattle.machine.specs.declared.step.Stepped.{Stepped}
 

@@ -1,12 +1,12 @@
 -- A run, by document 01, "The machine": the steps one after the other, until the end, a stop, or the budget is spent.
 use Prim.Native.Nat.{ℕ, zero, suc, _-_}
-use mathlib.Core.Bool.{Bool, true, false, cond, _&&_}
+use mathlib.Core.Bool.{cond, _&&_}
 use mathlib.Core.List.{List}
 use lib.Dec.{ltb, leb}
 use lib.ListN.{length, take, drop}
 use Rattle.faults.specs.Numbers.{budgetSpent, outOfRange, illFormed}
 use Rattle.value.specs.Value.{allWell}
-use Rattle.machine.specs.Step.{After, after, stepOf}
+use Rattle.machine.specs.Step.{after, stepOf}
 use Rattle.machine.specs.declared.step.Stepped.{Stepped}
 use Rattle.machine.specs.declared.run.Ran.{Ran}
 

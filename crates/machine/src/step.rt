@@ -13,7 +13,6 @@ use value::payload_of;
 ghost use mathlib.Core.Path.{_≡_};
 ghost use Prim.Native.Nat.{_<_};
 ghost use lib.ListN.{length};
-ghost use Rattle.value.specs.Value.{meaning};
 ghost use Rattle.value.specs.Answer.{resultOf};
 ghost use Rattle.effect.specs.Effect.{size, held};
 ghost use Rattle.effect.specs.Forms.{asked};
