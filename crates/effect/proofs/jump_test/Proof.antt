@@ -1,13 +1,13 @@
--- `compare` meets its contract: each arm knows the comparison. Assumes nothing.
+-- `jump_test` meets its contract: each arm knows the comparison.
 use borrow.Author.Needs.{needs}
 use Rattle.effect.proofs.EffectLaws.{arm, arm-not}
-use Rattle.effect.specs.Effect.{compare}
-use Rattle.effect.proofs.compare.Statement.{statement}
-use Rattle.effect.proofs.compare.Tie as tie
+use Rattle.effect.specs.Forms.{jumpTest}
+use Rattle.effect.proofs.jump_test.Statement.{statement}
+use Rattle.effect.proofs.jump_test.Tie as tie
 
-pub compare-spec : {M : Type 1} → statement M
-unfolding compare
-compare-spec =
+pub jump-test-spec : {M : Type 1} → statement M
+unfolding jumpTest
+jump-test-spec =
     tie.close
     (tie.spec
     (λ c. search needs)
