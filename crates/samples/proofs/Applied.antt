@@ -1,4 +1,4 @@
--- The claim's premises can be met: sample 3 with a NaN, run. Assumes nothing.
+-- The claim's premises can be met: sample 3 with a NaN, run.
 use mathlib.Core.Path.{_≡_, refl}
 use mathlib.Core.List.{List, [], _∷_, map}
 use Prim.Native.Nat.{ℕ, zero, suc, _<_, _^_}
@@ -37,9 +37,9 @@ use Rattle.compile.specs.Compile as Compile
 use Rattle.effect.specs.Effect as Effect
 use Rattle.machine.specs.Step as Step
 use Rattle.machine.specs.Run as Run
-use Rattle.claim.specs.Claim.{Accepted, Lent, Ended}
+use Rattle.claim.specs.Claim.{Agrees, Accepted, Supplied}
 use Rattle.samples.specs.Samples.{choice, nan}
-use Rattle.claim.proofs.Theorem.{correct}
+use Rattle.claim.proofs.Theorem.{demand-3}
 
 abbrev made : State.State
 made =
@@ -68,9 +68,9 @@ wide (suc zero) = omega arith
 wide (suc (suc zero)) = omega arith
 wide (suc (suc (suc i))) = omega arith
 
-lent : Lent made kinds payloads [] [] 4
+supplied : Supplied made kinds payloads [] [] 4
 unfolding Val.ofPair Val.allWell Val.datums
-lent =
+supplied =
     record {
       registers = record { well = refl; words = wide };
       room = omega arith;
@@ -78,6 +78,6 @@ lent =
       enough = omega arith;
     }
 
-pub applied : Ended None 2 2 made kinds payloads (Val.int (pos 2)) (Run.runOf (made .words) [] [] 4 0 kinds payloads)
+pub applied : Agrees None 2 2 made kinds payloads (Answer.is (Val.int (pos 2))) (Run.runOf (made .words) [] [] 4 0 kinds payloads)
 unfolding Faults.fault Faults._or-else_ Table.tempBase Table.arity Table.children Table.spanFault Table.nodeFault Table.nodesFault Table.shapeFault Table.layoutFault Table.destFault Table.lastFault Table.checkOf Tree.kindOf Tree.build Tree.treeAt Tree.tree Val.ofPair Val.allWell Val.datums Answer.isNumber Arith.ofNumbers Arith.fromInt Arith.arithOf Compare.standing Compare.judged Compare.mixed Compare.compareNumbers Compare.compareOf Not.notOf Order.holds Exact.inRange I.checked I.exact Exact.arith I.operate FBits.read F.halvings F.toNearest F.rounded order F.ofInt Eval.leafOf Eval.unaryOf Eval.cmpOf Apply.on Apply.both Apply.whether Eval.binaryOf Eval.evalOf Evaluate.localsFault Evaluate.unless Evaluate.evaluateOf
-applied = correct choice 2 0 None 2 made accepted kinds payloads [] [] 4 lent
+applied = demand-3 choice 2 0 None 2 made accepted .agrees kinds payloads [] [] 4 supplied
