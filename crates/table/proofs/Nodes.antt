@@ -13,8 +13,8 @@ use borrow.Author.Tests.{ltb-false, eqb-true, eqb-false, leb-false, lt-leb, not-
 use Rattle.faults.specs.Limits.{maxDepth}
 use Rattle.faults.specs.Faults.{fault, _or-else_}
 use Rattle.table.specs.Table.{kindAt, payloadAt, firstAt, depthAt, child1, child2, child3, arity, kindFault, limitFault, children, spanFault, nodeFault, nodesFault, nodeCount, Node, Child, Below}
-use Rattle.table.specs.declared.Span.{Span}
-use Rattle.table.specs.declared.Span.the-variants.{Missing, Between}
+use Rattle.table.specs.declared.children.Span.{Span}
+use Rattle.table.specs.declared.children.Span.the-variants.{Missing, Between}
 use Rattle.faults.proofs.Faults.{none-both, first, second, failed, and-true, stop, pass}
 
 -- ---- the children

@@ -11,8 +11,8 @@ use Rattle.faults.specs.Limits.{maxNodes, maxDepth, maxRegisters}
 use Rattle.faults.specs.Numbers.{badShape, badNode, tooDeep, notLocal, noRegister}
 use Rattle.table.specs.declared.Dest.{Dest}
 use Rattle.table.specs.declared.Dest.the-variants.{None, Reg}
-use Rattle.table.specs.declared.Span.{Span}
-use Rattle.table.specs.declared.Span.the-variants.{Missing, Between}
+use Rattle.table.specs.declared.children.Span.{Span}
+use Rattle.table.specs.declared.children.Span.the-variants.{Missing, Between}
 
 -- ---- four words a node: kind, payload, first, depth
 
@@ -64,6 +64,10 @@ children ws zero e d = Between e d
 children ws (suc n) zero d = Missing
 children ws (suc n) (suc j) d = children ws n (firstAt ws j) (max d (depthAt ws j))
 
+-- the children of node i
+abbrev pub spanAt : List ℕ → ℕ → Span
+spanAt ws i = children ws (arity (kindAt ws i)) i 0
+
 -- no child is missing, `first` is the lowest node, and `depth` one more than the deepest child's
 unfoldable pub spanFault : Span → ℕ → ℕ → ℕ
 spanFault Missing f d = badNode
@@ -77,7 +81,7 @@ limitFault k p d base = fault (ltb maxDepth d) tooDeep or-else fault (eqb k 5 &&
 unfoldable pub nodeFault : List ℕ → ℕ → ℕ → ℕ
 nodeFault ws base i =
     kindFault (kindAt ws i) (payloadAt ws i)
-    or-else spanFault (children ws (arity (kindAt ws i)) i 0) (firstAt ws i) (depthAt ws i)
+    or-else spanFault (spanAt ws i) (firstAt ws i) (depthAt ws i)
     or-else limitFault (kindAt ws i) (payloadAt ws i) (depthAt ws i) base
 
 -- the first fault of the nodes below n, from 0 upward

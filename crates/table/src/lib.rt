@@ -1,5 +1,6 @@
 // The node table: its kinds, the four words of a node, and a node's children; its check (`check`); filling in first and depth (`complete`).
 pub mod check;
+mod children;
 pub mod complete;
 
 ghost use mathlib.Core.Path.{_≡_};
@@ -10,12 +11,6 @@ ghost use Rattle.table.specs.Table.{nodeCount, kindAt, payloadAt, firstA
 pub enum Dest {
     None,
     Reg(u64),
-}
-
-// What a node's children cover: one is missing, or their lowest node and their greatest depth.
-pub enum Span {
-    Missing,
-    Between(usize, u64),
 }
 
 // The kinds of a node. Up to REF a node has no child, up to NOT one, up to OR two, and TERNARY has three.
