@@ -1,4 +1,4 @@
--- The returns of the check's parts, each a law over plain values that `search parts` finds. Assumes nothing.
+-- The returns of the check's parts, each a law over plain values that `search parts` finds.
 use mathlib.Core.Path.{_≡_, refl, sym}
 use mathlib.Core.Bool.{true, false}
 use mathlib.Core.List.{List}

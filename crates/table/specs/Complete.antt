@@ -39,7 +39,3 @@ pub record Completed (ws vs : List ℕ) : Type 0 where
   pub firsts : (i : ℕ) → i < nodeCount vs → firstAt vs i ≡ spanFirst (spanAt vs i)
   pub depths : (i : ℕ) → i < nodeCount vs → depthAt vs i ≡ spanDepth (spanAt vs i)
   pub rest : (k : ℕ) → 4 * nodeCount vs ≤ k → getD vs k 0 ≡ getD ws k 0
-
--- 64 bits hold the depth
-pub record Shallow (s : Span) : Type 0 where
-  pub fits : spanDepth s < 2 ^ 64

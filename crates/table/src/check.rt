@@ -6,7 +6,9 @@ use crate::children::children_of;
 ghost use mathlib.Core.Path.{_≡_};
 ghost use Prim.Native.Nat.{_<_};
 ghost use Rattle.faults.specs.Faults.{fault, _or-else_};
-ghost use Rattle.table.specs.Table.{nodeCount, kindFault, limitFault, spanFault, nodeFault, nodesFault, shapeFault, layoutFault, destFault, lastFault, checkOf, Below};
+ghost use Rattle.table.specs.Table.{nodeCount, kindFault, limitFault, spanFault, nodeFault, nodesFault};
+ghost use Rattle.table.specs.Table.{shapeFault, layoutFault, destFault, lastFault, checkOf};
+ghost use Rattle.table.specs.Nodes.{Below};
 
 // The number of the first of two tests that holds, else none.
 fn either(a: bool, n: u8, b: bool, m: u8) -> u8

@@ -1,7 +1,8 @@
 // What a node's children cover. The check compares it with the node's own first and depth; `complete` writes it there.
 ghost use mathlib.Core.Path.{_≡_};
 ghost use Prim.Native.Nat.{max};
-ghost use Rattle.table.specs.Table.{arity, children, Below};
+ghost use Rattle.table.specs.Table.{arity, children};
+ghost use Rattle.table.specs.Nodes.{Below};
 
 // One child is missing, or their lowest node and their greatest depth.
 pub enum Span {

@@ -1,8 +1,9 @@
 // Fills in the first and depth of every node: both follow from the kinds, so whoever writes a table need not count.
 ghost use mathlib.Core.Path.{_≡_};
 ghost use Prim.Native.Nat.{_<_};
-ghost use Rattle.table.specs.Table.{nodeCount, spanAt, Below};
-ghost use Rattle.table.specs.Complete.{spanFirst, spanDepth, Shallow, completeNode, completeOf};
+ghost use Rattle.table.specs.Table.{nodeCount, spanAt};
+ghost use Rattle.table.specs.Nodes.{Below, Shallow};
+ghost use Rattle.table.specs.Complete.{spanFirst, spanDepth, completeNode, completeOf};
 use crate::children::Span;
 use crate::children::arity_of;
 use crate::children::children_of;

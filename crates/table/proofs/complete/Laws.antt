@@ -12,11 +12,12 @@ use lib.ListN.{length, getD, set, length-set}
 use lib.Seq.{getD-set-same, getD-set-other, set-getD}
 use borrow.Author.Needs.{needs}
 use Rattle.faults.proofs.Faults.{none-both}
-use Rattle.table.specs.Table.{nodeCount, kindAt, payloadAt, firstAt, depthAt, arity, children, spanAt, nodesFault, checkOf, Below}
+use Rattle.table.specs.Table.{nodeCount, kindAt, payloadAt, firstAt, depthAt, arity, children, spanAt, nodesFault, checkOf}
+use Rattle.table.specs.Nodes.{Below, Shallow}
 use Rattle.table.specs.declared.Dest.{Dest}
 use Rattle.table.specs.declared.children.Span.{Span}
 use Rattle.table.specs.declared.children.Span.the-variants.{Missing, Between}
-use Rattle.table.specs.Complete.{spanFirst, spanDepth, Shallow, completeNode, completeBelow, completeOf, Completed}
+use Rattle.table.specs.Complete.{spanFirst, spanDepth, completeNode, completeBelow, completeOf, Completed}
 use Rattle.table.proofs.Nodes.{NodeOk, node-ok}
 
 -- ---- what the children of a node cover lies below it
