@@ -1,11 +1,11 @@
--- `check::children_of` meets its contract. The invariant: what is left to cover gives the answer. Assumes nothing.
+-- `children::children_of` meets its contract. The invariant: what is left to cover gives the answer.
 use mathlib.Core.Path.{_≡_}
 use Prim.Native.Nat.{_≤_}
 use borrow.Author.Needs.{needs}
 use Rattle.table.specs.Table.{children}
 use Rattle.table.proofs.Nodes.{turns}
-use Rattle.table.proofs.check.children_of.Statement.{statement}
-use Rattle.table.proofs.check.children_of.Tie as tie
+use Rattle.table.proofs.children.children_of.Statement.{statement}
+use Rattle.table.proofs.children.children_of.Tie as tie
 
 abbrev Inv-loop : tie.InvT-loop
 Inv-loop nodes n i left₀ e₀ d₀ left e d = (children nodes left e d ≡ children nodes n i 0) × (e ≤ i)
