@@ -7,6 +7,7 @@ ghost use Prim.Native.Nat.{ℕ};
 ghost use lib.ListN.{length, replicate};
 ghost use Rattle.faults.specs.Limits.{maxNodes};
 ghost use Rattle.table.specs.Table.{checkOf};
+ghost use Rattle.table.specs.Complete.{completeOf};
 ghost use Rattle.eval.specs.Evaluate.{evaluateOf};
 ghost use Rattle.machine.specs.Run.{out, ran, runOf, runPartOf};
 ghost use Rattle.decode.specs.Decode.{decodeOf};
@@ -24,6 +25,14 @@ pub extern "C" fn vosemaqe_version() -> u32
     ensures { λ r. ⌜ r ≡ 100 ⌝ }
 {
     VERSION
+}
+
+// Fills in first and depth, so that whoever writes a table need not count.
+#[no_mangle]
+pub extern "C" fn vosemaqe_complete(nodes: &mut [u64])
+    ensures { λ _. ⌜ now (nodes .exit) ≡ completeOf (now (nodes .entry)) ⌝ }
+{
+    table::complete::complete(nodes);
 }
 
 // The number of a table with its layout and its destination.
