@@ -222,8 +222,8 @@ enum vosemaqe_opcode {
 /* The version of the library, as VOSEMAQE_VERSION counts it: equal to the header's, or the program was compiled with another version's header. */
 uint32_t vosemaqe_version(void);
 
-/* Fills in the first and depth of every node, from the kinds alone, and overwrites what stands there; kinds and payloads stay. A node whose children are
- * missing gets 0 and 0, which vosemaqe_check refuses with 2, and so does what follows from it. Words after the last whole node stay. */
+/* Fills in the first and depth of every node, from the kinds alone, whatever stood there. Kinds and payloads stay, and so do words after the last whole
+ * node. A node whose children are missing gets 0 and 0: no depth is 0, so vosemaqe_check refuses its table. An unknown kind is taken to have three. */
 void vosemaqe_complete(uint64_t *nodes, uint64_t nodes_len);
 
 /* The number of a table with its layout and its destination: 0 to 5, the first fault in this order: 1, 5 of the layout, 4 of the destination,

@@ -41,7 +41,8 @@ functions crates/vosemaqe/src/lib.rt 'pub extern "C" fn ' \
 functions bindings/rust/src/ffi.rs 'pub fn ' | sed 's/usize/u64/g' >"$out/rust"
 tr '\n' ' ' <include/vosemaqe.h | sed 's/  */ /g' | grep -o '\(uint[0-9]*_t\|void\) vosemaqe_[a-z_]*([^;]*);' \
     | sed 's/^uint\([0-9]*\)_t \(.*\);$/\2 -> u\1/; s/^void \(.*\);$/\1/; s/(void)/()/' \
-    | sed 's/const uint\([0-9]*\)_t \*\([a-z_]*\)/\2: *const u\1/g; s/uint\([0-9]*\)_t \*\([a-z_]*\)/\2: *mut u\1/g; s/uint\([0-9]*\)_t \([a-z_]*\)/\2: u\1/g' | sort >"$out/header"
+    | sed 's/const uint\([0-9]*\)_t \*\([a-z_]*\)/\2: *const u\1/g; s/uint\([0-9]*\)_t \*\([a-z_]*\)/\2: *mut u\1/g' \
+    | sed 's/uint\([0-9]*\)_t \([a-z_]*\)/\2: u\1/g' | sort >"$out/header"
 [ "$(wc -l <"$out/functions")" -eq 11 ] || fail "the exported functions were not found"
 diff "$out/functions" "$out/header" || fail "the header's functions are not the sources' (< sources, > header)"
 diff "$out/functions" "$out/rust" || fail "the Rust declarations are not the sources' (< sources, > Rust)"
