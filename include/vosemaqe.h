@@ -57,8 +57,8 @@
  * Then
  *
  *   - where vosemaqe_evaluate gives a value for the table on the same registers, the run is done: it returns 0 at position *words, and register *reg holds
- *     that value, bit for bit. Where it gives a fault, one of 20 to 24, the run returns that number;
- *   - the run takes at most *words steps, and fewer where it returns a fault. So 25 is never given, and of 20 to 29 no number that is not the table's own;
+ *     that value, bit for bit. Where it gives a fault, one of 20 to 24, the run returns that number. The run returns no other number;
+ *   - the run takes at most *words steps, and fewer where it returns a fault;
  *   - the temporaries are the registers from max(params + locals, 1) up to *frame, *frame not included. Every register below them but the destination, and
  *     every register from *frame on, is as it was. The destination is written only where the run is done: after a fault it too is as it was;
  *   - what the temporaries held before changes neither number nor steps nor position nor value. But they are checked like every register: a pair that is

@@ -7,6 +7,7 @@ archive=$(realpath "${1:-target/staticlib/libvosemaqe.a}")
 work=$(mktemp -d)
 trap 'rm -rf "$work"' EXIT
 fail() { echo "install: $*"; exit 1; }
+command -v make >/dev/null || apt-get install -q -y make >/dev/null || fail "no make here"
 make -s install PREFIX="$work/usr" ARCHIVE="$archive"
 cp -R tests/install "$work/app"
 

@@ -44,7 +44,7 @@ pub fn within(n: u64, room: usize) -> usize
 }
 
 // The eight bytes of a number, least byte first.
-pub fn bytes_of(w: u64) -> [u8; 8]
+fn bytes_of(w: u64) -> [u8; 8]
     ensures { λ r. ⌜ 8 ≡ length r ⌝ }
 {
     let mut b = [0u8; 8];
