@@ -7,7 +7,8 @@ use Prim.Native.Nat.{ℕ, _≤_, _<_}
 use native.Mathlib.Omega.{arith}
 use lib.Dec.{eqb}
 use lib.ListN.{length, getD}
-use Rattle.table.specs.Table.{kindAt, payloadAt, depthAt, child1, child2, child3, Node, Child, ChildIs}
+use Rattle.table.specs.Table.{kindAt, payloadAt, depthAt, child1, child2, child3}
+use Rattle.table.specs.Nodes.{Node, Child, ChildIs}
 use Rattle.table.specs.Tree as T
 use Rattle.table.specs.Tree.{Leaf, Unary, Arith, Cmp, Binary, Tree, Kind, leafKind, unaryKind, binaryKind, ternaryKind, noKind, kindOf, tree, unaryCode, arithCode, cmpCode, binaryCode}
 use Rattle.table.proofs.Arities.{at-kind, leaf-le, unary-code, binary-code, ternary-code, unary-codes, arith-codes, cmp-codes}

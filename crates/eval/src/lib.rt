@@ -5,7 +5,7 @@ mod next;
 ghost use mathlib.Core.Path.{_≡_};
 ghost use Prim.Native.Nat.{min};
 ghost use lib.ListN.{length};
-ghost use Rattle.table.specs.Table.{Node};
+ghost use Rattle.table.specs.Nodes.{Node};
 ghost use Rattle.table.specs.Tree.{tree};
 ghost use Rattle.value.specs.Value.{datums};
 ghost use Rattle.value.specs.Answer.{resultOf};

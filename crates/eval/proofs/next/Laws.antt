@@ -10,7 +10,8 @@ use lib.IntN.{ℤ}
 use lib.Ieee.{Float}
 use borrow.Author.Tests.{le-leb, lt-leb, leb-false, ne-eqb, eqb-false}
 use Rattle.faults.specs.Numbers.{wrongKind}
-use Rattle.table.specs.Table.{kindAt, child1, child2, child3, Node, Inner, ChildIs}
+use Rattle.table.specs.Table.{kindAt, child1, child2, child3}
+use Rattle.table.specs.Nodes.{Node, Inner, ChildIs}
 use Rattle.value.specs.Value.{meaning}
 use Rattle.value.specs.declared.Value.{Value}
 use Rattle.value.specs.declared.Value.the-variants as C
