@@ -144,7 +144,7 @@ impl Fuzz {
         let (kinds, payloads) = (self.length(20), self.length(20));
         (j.max_words, j.max_slots) = (room, kinds.min(payloads));
         let places = (j.table.len() / 4).div_ceil(2);
-        let jumps = if self.r.chance(60) { places } else { self.length(places as u64) };
+        let jumps = if self.r.chance(30) { places } else { self.length(places as u64) };
         let a: [bool; 6] = std::array::from_fn(|_| self.above());
         let nodes = self.nodes.lend(&j.table, a[0]);
         let code = self.code.lend(&vec![JUNK; room], a[1]);
@@ -159,9 +159,7 @@ impl Fuzz {
                 ffi::vosemaqe_compile(nodes, j.table.len(), j.params, j.locals, dest(&j), code, room, sk, kinds, sp, payloads, c, c.add(1), c.add(2), c.add(3))
             }
         };
-        let mut want = self.oracle.compile(&j);
-        // a short list may run out first, or may not
-        if with && jumps < places && number == 7 { want = Err(Refused(7)) }
+        let want = if with { runner::with_list(&mut self.oracle, &j, jumps) } else { self.oracle.compile(&j) };
         let literals = j.table.chunks(4).filter(|n| matches!(n[0], tables::INT | tables::FLOAT)).count();
         let pad = |mut v: Vec<u64>, n: usize| { v.resize(n, 0); v };
         let ok = match &want {
