@@ -1,4 +1,4 @@
--- What `evaluate` has to show at each of its returns and calls. Assumes nothing.
+-- What `evaluate` has to show at each of its returns and calls.
 use mathlib.Core.Path.{_≡_, refl, sym, _∙_, ap}
 use mathlib.Core.Bool.{Bool, true, false, not}
 use mathlib.Core.List.{List}

@@ -1,5 +1,4 @@
--- How the code goes about a node with children: it evaluates one child, and then stops or goes on with one more.
--- Assumes nothing: these are definitions.
+-- Plumbing: how the code goes about a node with children: it evaluates one child, and then stops or goes on with one more. What a tree means stands in Eval.
 use Prim.Native.Nat.{ℕ, _<_}
 use mathlib.Core.Path.{_≡_}
 use mathlib.Core.Bool.{cond}

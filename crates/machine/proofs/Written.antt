@@ -12,11 +12,9 @@ use mir.Val.{SFits, ofZ}
 use mir.Facts.{sfits-toZ}
 use Rattle.faults.specs.Numbers.{badShift}
 use Rattle.int64.specs.Int as I
-use Rattle.int64.specs.Exact as Exact
 use Rattle.int64.specs.Mask.{maskOf}
 use Rattle.int64.specs.declared.Op as IntOp
 use Rattle.int64.specs.declared.Op.the-variants as IO
-use Rattle.int64.specs.declared.exact.Arith.the-variants as B
 use Rattle.int64.proofs.Answers.{floor-is}
 use Rattle.float.specs.declared.Op as FloatOp
 use Rattle.float.specs.declared.Op.the-variants as FO
@@ -78,9 +76,9 @@ sums-imm i f (float p) z h = as-floats f (float p) (int z)
 ariths-imm : (k : Arith) (x : Result) (z : ℤ) → Held (both (arithKind k) x (literal z))
 unfolding both I.operate
 ariths-imm k (fault n) z = record { back = tt }
-ariths-imm Arith.Plus (is v) z = sums-imm IO.Add FO.Add v z (λ a. exact (Exact.arith B.Add a z))
-ariths-imm Arith.Minus (is v) z = sums-imm IO.Sub FO.Sub v z (λ a. exact (Exact.arith B.Sub a z))
-ariths-imm Arith.Times (is v) z = sums-imm IO.Mul FO.Mul v z (λ a. exact (Exact.arith B.Mul a z))
+ariths-imm Arith.Plus (is v) z = sums-imm IO.Add FO.Add v z (λ a. exact (a +ℤ z))
+ariths-imm Arith.Minus (is v) z = sums-imm IO.Sub FO.Sub v z (λ a. exact (a -ℤ z))
+ariths-imm Arith.Times (is v) z = sums-imm IO.Mul FO.Mul v z (λ a. exact (a *ℤ z))
 
 -- a shift by 64 or more is a fault, and any other amount is an Int
 shl : (a : ℤ) (n : ℕ) → SFits w64 a → Held (fromInt (I.operate IO.Shl a (pos n)))

@@ -1,4 +1,4 @@
--- Tests and the rule of a node, over plain values. Assumes nothing.
+-- Tests and the rule of a node, over plain values.
 use mathlib.Core.Path.{_≡_, refl, sym, _∙_, subst}
 use mathlib.Core.Bool.{Bool, true, false, cond}
 use mathlib.Core.List.{List}
