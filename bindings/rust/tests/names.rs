@@ -3,28 +3,24 @@ use vosemaqe::{encode, Error, Instruction, Kind, Opcode, VERSION};
 
 const HEADER: &str = include_str!("../../../include/vosemaqe.h");
 
-/// The lines `VOSEMAQE_<prefix>NAME = NUMBER, /* WHAT */` of the header: name without underscores, number, what.
-fn named(prefix: &str) -> Vec<(String, u64, Vec<&'static str>)> {
-    let prefix = format!("VOSEMAQE_{prefix}");
-    let entry = |text: &'static str| {
-        let (name, rest) = text.trim().strip_prefix(&prefix)?.split_once(" = ")?;
+/// The entries `VOSEMAQE_<prefix>NAME = NUMBER, /* WHAT */` of an enum of the header: name without underscores, number, what.
+fn named(of: &str, prefix: &str) -> Vec<(String, u64, Vec<&'static str>)> {
+    let body = HEADER
+        .split_once(&format!("enum {of} {{"))
+        .expect("the enum")
+        .1;
+    let body = body.split_once("};").expect("its end").0;
+    let entries = body.split("VOSEMAQE_").skip(1);
+    let read = |text: &'static str| {
+        let (name, rest) = text.strip_prefix(prefix)?.split_once(" = ")?;
         let digits = rest.split(|c: char| !c.is_ascii_digit()).next()?;
-        let what = rest.split_once("/*").map_or("", |(_, what)| what);
-        let what = what.split_once("*/").map_or("", |(what, _)| what);
-        Some((
-            name.replace('_', ""),
-            digits.parse().ok()?,
-            what.split_whitespace().collect(),
-        ))
+        let what = rest
+            .split_once("/*")
+            .and_then(|(_, what)| what.split_once("*/"));
+        let what = what.map_or(vec![], |(what, _)| what.split_whitespace().collect());
+        Some((name.replace('_', ""), digits.parse().ok()?, what))
     };
-    HEADER
-        .lines()
-        .flat_map(|line| match line.contains("/*") {
-            true => vec![line],
-            false => line.split(',').collect(),
-        })
-        .filter_map(entry)
-        .collect()
+    entries.filter_map(read).collect()
 }
 
 fn same(name: &str, ours: impl std::fmt::Debug) {
@@ -51,7 +47,7 @@ fn kinds() {
         Nil, True, False, Int, Float, Ref, Minus, Not, BitAnd, BitOr, BitXor, LShift, RShift, Add,
         Sub, Mul, Div, Mod, Eq, Ne, Lt, Le, Gt, Ge, And, Or, Ternary,
     ];
-    let header = named("NODE_");
+    let header = named("vosemaqe_node", "NODE_");
     assert_eq!(header.len(), kinds.len());
     for ((name, number, _), kind) in header.iter().zip(kinds) {
         same(name, kind);
@@ -62,22 +58,7 @@ fn kinds() {
 #[test]
 fn numbers() {
     let all: Vec<_> = (0..=255).filter_map(|n| Error::try_from(n).ok()).collect();
-    let header = HEADER
-        .split_once("enum vosemaqe_number")
-        .unwrap()
-        .1
-        .split_once("};")
-        .unwrap()
-        .0;
-    let header: Vec<_> = named("")
-        .into_iter()
-        .filter(|(_, n, _)| *n > 0)
-        .filter(|e| {
-            header
-                .replace('_', "")
-                .contains(&format!("VOSEMAQE{} ", e.0))
-        })
-        .collect();
+    let header = named("vosemaqe_number", "").split_off(1); // but for 0
     assert_eq!(header.len(), all.len());
     for ((name, number, _), error) in header.iter().zip(all) {
         same(name, error);
@@ -102,7 +83,7 @@ fn range(field: &str) -> (i64, i64) {
 
 #[test]
 fn opcodes() {
-    let header = named("OP_");
+    let header = named("vosemaqe_opcode", "OP_");
     assert_eq!(header.len(), Opcode::ALL.len());
     for ((name, number, what), opcode) in header.iter().zip(Opcode::ALL.iter().copied()) {
         let fields: Vec<_> = what.iter().copied().filter(|f| *f != "*").collect();
