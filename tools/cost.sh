@@ -34,12 +34,14 @@ for crate; do
     # what rt itself takes to see that nothing has changed
     idle=$(cpu rt check "$crate")
     rm -f "target/stamp/$crate"
-    proof=$(minus "$(cpu rt check "$crate")" "$idle")
+    anew=$(cpu rt check "$crate")
+    proof=$(minus "$anew" "$idle")
     edits=0 tried=0
     if [ -d "edits/$crate" ]; then
         mv "edits/$crate" "crates/$crate/must-fail"
         edits=$(find "crates/$crate/must-fail" -name '*.edit' | wc -l)
-        tried=$(minus "$(cpu rt must-fail "$crate")" "$idle")
+        tried=$(cpu rt must-fail "$crate")
+        tried=$(minus "$tried" "$idle")
         rm -r "crates/$crate/must-fail"
     fi
     printf '%-16s %8s %6s %8s\n' "$crate" "$proof" "$edits" "$tried" | tee -a rows

@@ -2,7 +2,8 @@
 # What a reader has to believe, in files and lines of specs/:
 #   tools/specs.sh [CRATE, vosemaqe]   the files that the contracts of a crate rest on, directly or through one another
 #   tools/specs.sh all                 each crate's lines, as a table
-# A file whose first line says "Plumbing" stands between code and definition: a wrong one can only make a proof fail. It is counted apart.
+# A file whose first line begins with "Plumbing" ties code to definitions and is counted apart: where only inner contracts cite it, a wrong one can only make
+# a proof fail.
 set -euo pipefail
 cd "$(dirname "$0")/.."
 

@@ -9,7 +9,8 @@ use native.Mathlib.Omega.{arith}
 use lib.Dec.{leb, eqb, lit≤}
 use borrow.Author.Needs.{needs}
 use borrow.Author.Tests.{le-leb, lt-leb}
-use Rattle.table.specs.Table.{kindAt, depthAt, child1, nodeCount, Child, Inner, ChildIs}
+use Rattle.table.specs.Table.{kindAt, depthAt, child1, nodeCount}
+use Rattle.table.specs.Nodes.{Child, Inner, ChildIs}
 use Rattle.table.specs.Tree.{Unary, cmp, Tree, tree}
 use Rattle.table.specs.Tree as Tree
 use Rattle.table.proofs.Trees.{View, is-leaf, is-unary, is-binary, is-ternary, view, unary-in}

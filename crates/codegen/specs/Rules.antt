@@ -8,7 +8,8 @@ use lib.ListN.{length}
 use denote.Ref.{RefT, now}
 use denote.Triple.Both.{Both}
 use Rattle.faults.specs.Limits.{maxRegisters}
-use Rattle.table.specs.Table.{kindAt, child1, child2, Node}
+use Rattle.table.specs.Table.{kindAt, child1, child2}
+use Rattle.table.specs.Nodes.{Node}
 use Rattle.table.specs.Tree.{tree}
 use Rattle.emit.specs.declared.state.St.{St}
 use Rattle.emit.specs.declared.state.Ans.{Ans}

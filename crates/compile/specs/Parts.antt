@@ -6,7 +6,8 @@ use lib.ListN.{length, take, replicate, getD}
 use Rattle.faults.specs.Limits.{maxRegisters}
 use Rattle.table.specs.declared.Dest.{Dest}
 use Rattle.table.specs.declared.Dest.the-variants as D
-use Rattle.table.specs.Table.{nodeCount, Node}
+use Rattle.table.specs.Table.{nodeCount}
+use Rattle.table.specs.Nodes.{Node}
 use Rattle.value.specs.Value.{kindOf, payloadOf}
 use Rattle.emit.specs.declared.state.St.{St}
 use Rattle.emit.specs.Read.{bufs, constAt, Fit}

@@ -5,7 +5,8 @@ use mathlib.Core.Logic.{_⊎_}
 use mathlib.Core.List.{List}
 use Prim.Native.Nat.{ℕ, _<_, _≤_}
 use lib.Dec.{leb}
-use Rattle.table.specs.Table.{kindAt, Node, Child}
+use Rattle.table.specs.Table.{kindAt}
+use Rattle.table.specs.Nodes.{Node, Child}
 use Rattle.table.specs.Tree.{minus, not′, arith, cmp, and, or, Tree, leaf, unary, binary, ternary, tree}
 use Rattle.fold.specs.declared.Tail.{Tail}
 use Rattle.fold.specs.declared.Tail.the-variants as Tail

@@ -19,7 +19,8 @@ use Rattle.insns.specs.declared.op.Imm40.{Imm40}
 use Rattle.insns.specs.declared.Made.{Made}
 use Rattle.insns.specs.Fields.{Field, rawBits, raw, pack, allFit, wordIf}
 use Rattle.insns.specs.Bits.{twos, isRaw}
-use Rattle.insns.specs.Insns.{threeOp, shiftOp, arithOp, ifOp, jumpOp, jumpImmOp, opOf, formOf, fieldsOf, madeOf}
+use Rattle.insns.specs.Insns.{formOf, fieldsOf, madeOf}
+use Rattle.insns.specs.Opcodes.{threeOp, shiftOp, arithOp, ifOp, jumpOp, jumpImmOp, opOf}
 use Rattle.table.specs.Tree as Tree
 use Rattle.decode.specs.Decode.{decodeOf}
 use Rattle.decode.specs.declared.Decoded.{Decoded}

@@ -1,4 +1,4 @@
--- Every tree's fragment does what the tree's value says: peeking at literals, and the induction. Assumes nothing.
+-- Every tree's fragment does what the tree's value says: peeking at literals, and the induction.
 use mathlib.Core.Path.{_≡_, refl, sym, ap, _∙_, subst}
 use mathlib.Core.Bool.{Bool, true, false, not, cond}
 use mathlib.Core.List.{List, [], _++_}
@@ -8,12 +8,8 @@ use lib.IntN.{ℤ, pos, negsuc}
 use lib.Dec.{ltb}
 use Rattle.insns.specs.declared.op.Op.{Op}
 use Rattle.insns.specs.declared.op.Three.{Three}
-use Rattle.insns.specs.declared.op.Arith.{Arith as ImmArith}
-use Rattle.insns.specs.declared.op.Arith.the-variants.{Plus, Minus, Times}
 use Rattle.insns.specs.declared.op.Imm16.{Imm16 as Small}
 use Rattle.insns.specs.declared.op.Imm40.{Imm40}
-use Rattle.insns.specs.declared.op.Shift.{Shift}
-use Rattle.insns.specs.declared.op.Shift.the-variants as Shift
 use Rattle.insns.specs.declared.op.Sense.the-variants as Sense
 use Rattle.int64.specs.declared.order.Cmp.{Cmp as ValueCmp}
 use Rattle.int64.specs.declared.order.Cmp.the-variants as VC
@@ -23,6 +19,8 @@ use Rattle.value.specs.Answer.{Result, is, fault, isNumber}
 use Rattle.ops.specs.Not.{negate}
 use Rattle.ops.specs.Compare.{Standing, stands, apart, standing, judged, mixed, mirror as exchanged, compareNumbers, compareOthers, compareOf, same as sameDatum}
 use Rattle.effect.specs.Effect as M
+use Rattle.effect.specs.Forms as Forms
+use Rattle.effect.proofs.EffectLaws.{shift-form, arith-form, if-form, jump-form, jump-imm-form}
 use Rattle.effect.specs.Effect.{effectOf, write, branch}
 use Rattle.table.specs.Tree.{Tree, leaf, unary, binary, ternary, Leaf, nil, yep, nope, int, float, ref, Unary, minus, not′, Arith, bitAnd, bitOr, bitXor, lshift, rshift, add, sub, mul, div, mod′, Cmp, eq, ne, lt, le, gt, ge, Binary, arith, cmp, and, or, RefBelow, RefsBelow}
 use Rattle.eval.specs.Eval as E
@@ -40,16 +38,16 @@ use Rattle.fold.specs.declared.literal.Imm.{Imm}
 use Rattle.fold.specs.declared.literal.Imm.the-variants.{Imm16, NoImm}
 use Rattle.fold.specs.declared.literal.Amount.{Amount}
 use Rattle.fold.specs.declared.literal.Amount.the-variants.{By, NoShift}
-use Rattle.fold.specs.declared.literal.Run.{Run}
-use Rattle.fold.specs.declared.literal.Run.the-variants.{Ones, Other}
-use Rattle.fold.specs.Literal.{fits16, fitsImm40, isFixnum, bitRun, litOf, fixnum, constOf, immOf, immLit, asImm16, amountOf, amountLit}
-use Rattle.fold.specs.Fold.{minusOne, shiftBy, shiftedBy, maskFold, shiftFold, immFold, foldBy, foldLit, foldOf, tailOp}
+use Rattle.fold.specs.Literal.{fits16, fitsImm40, isFixnum, litOf, fixnum, constOf, immOf, immLit, asImm16, amountOf, amountLit}
+use Rattle.fold.specs.Fold.{minusOne, shiftBy, shiftedBy, foldOf, tailOp, takesShift}
+use Rattle.fold.proofs.Folding.{Folding, general, mask, shift-mask, shift-left, shift-right, plus, minus as less, times, folding}
+use Rattle.fold.proofs.literal.Runs.{run-exactly}
 use Rattle.fold.specs.Opcodes.{threeOf, mirror, branchOf}
 use Rattle.emit.specs.Steps.{rawNil, rawTrue, rawFalse, rawInt}
 use Rattle.claim.proofs.fragments.Frag.{DstLow, ValueF, BranchF, Frag, dReg, dNext, loadF, intF, leafF, intoF, binaryF, unaryTestF, binaryTestF, tailF, operandF, arithF, compareF, immOn, pairOn, testOn, condF, ternF, juncB, plainF, conditionF, unaryN, binaryN, frag}
 use Rattle.claim.proofs.fragments.Runs.{VSound, BSound, Truth, truth, wrong, test, sameT}
 use Rattle.claim.proofs.fragments.Sound
-use Rattle.claim.proofs.fragments.Laws.{Mask, mask-is, raw-nil, raw-true, raw-false, raw-int, three-is, both-left, both-right, opposite, jump-is, sense-is, mirror-is}
+use Rattle.claim.proofs.fragments.Laws.{mask-is, raw-nil, raw-true, raw-false, raw-int, three-is, both-left, both-right, opposite, jump-is, sense-is, mirror-is}
 
 -- ---- results and tests
 
@@ -134,15 +132,15 @@ compare-bool c (Val.float p) (Val.float q) = refl
 
 abbrev tailR : Tail → Result → Result
 tailR Tail.Not r = M.inverted r
-tailR (Tail.Imm o z) r = M.both (M.arithKind o) r (M.literal (z .n))
-tailR (Tail.Shift o k) r = M.both (M.shiftKind o) r (M.literal (pos k))
+tailR (Tail.Imm o z) r = M.both (Forms.arithKind o) r (M.literal (z .n))
+tailR (Tail.Shift o k) r = M.both (Forms.shiftKind o) r (M.literal (pos k))
 tailR (Tail.Mask lo len) r = M.both 8 r (M.mask lo len)
 tailR (Tail.ShiftMask k lo len) r = M.both 8 (M.both 12 r (M.literal (pos k))) (M.mask lo len)
 
 tail-asks : (tail : Tail) (reg slot : ℕ → Result) (d r : ℕ) → effectOf reg slot (tailOp tail d r) ≡ write d (tailR tail (reg r))
 tail-asks Tail.Not reg slot d r = refl
-tail-asks (Tail.Imm o z) reg slot d r = refl
-tail-asks (Tail.Shift o k) reg slot d r = refl
+tail-asks (Tail.Imm o z) reg slot d r = arith-form reg slot o d r z
+tail-asks (Tail.Shift o k) reg slot d r = shift-form reg slot o d r k
 tail-asks (Tail.Mask lo len) reg slot d r = refl
 tail-asks (Tail.ShiftMask k lo len) reg slot d r = refl
 
@@ -154,8 +152,7 @@ tail-strict (Tail.Shift o k) e = refl
 tail-strict (Tail.Mask lo len) e = refl
 tail-strict (Tail.ShiftMask k lo len) e = refl
 
-three-asks : (o : Arith) (reg slot : ℕ → Result) (d a b : ℕ) → effectOf reg slot (Op.Three (threeOf o) d a b) ≡ write d (M.both (M.threeKind (threeOf o)) (reg a) (reg b))
-unfolding M.threeOf
+three-asks : (o : Arith) (reg slot : ℕ → Result) (d a b : ℕ) → effectOf reg slot (Op.Three (threeOf o) d a b) ≡ write d (M.both (Forms.threeKind (threeOf o)) (reg a) (reg b))
 three-asks bitAnd reg slot d a b = refl
 three-asks bitOr reg slot d a b = refl
 three-asks bitXor reg slot d a b = refl
@@ -271,60 +268,34 @@ shifted-is (ternary c a b) ls = tt
 -- ---- what a fold may be used for
 
 abbrev operandR : Tail → Result → Result → Result
-operandR Tail.Not a first = a
-operandR (Tail.Imm o z) a first = a
-operandR (Tail.Shift o k) a first = a
-operandR (Tail.Mask lo len) a first = a
-operandR (Tail.ShiftMask k lo len) a first = first
+operandR tail a first = cond (takesShift tail) first a
 
 abbrev FoldIs : Fold → Arith → Result → Result → Result → Type 0
 FoldIs (Into tail) o ea e₁ eb = Apply.both (E.arithOf o) ea eb ≡ tailR tail (operandR tail ea e₁)
 FoldIs General o ea e₁ eb = Unit {0}
 
 -- the operator with a literal, as the machine has it
-with-literal : (o : Arith) (z : ℤ) (ea eb : Result) → eb ≡ is (Val.int z) → Apply.both (E.arithOf o) ea eb ≡ M.both (M.threeKind (threeOf o)) ea (M.literal z)
+with-literal : (o : Arith) (z : ℤ) (ea eb : Result) → eb ≡ is (Val.int z) → Apply.both (E.arithOf o) ea eb ≡ M.both (Forms.threeKind (threeOf o)) ea (M.literal z)
 with-literal o z ea eb h = ap (Apply.both (E.arithOf o) ea) h ∙ sym (three-is o ea (is (Val.int z)))
 
-mask-fold :
-    (s : Amount) (z : ℤ) (r : Run) (ea e₁ eb : Result) → ShiftIs s ea e₁ → eb ≡ is (Val.int z) → bitRun z ≡ r → FoldIs (maskFold s r) bitAnd ea e₁ eb
-mask-fold NoShift z Other ea e₁ eb hs h w = tt
-mask-fold (By k) z Other ea e₁ eb hs h w = tt
-mask-fold NoShift z (Ones lo len) ea e₁ eb hs h w =
-    with-literal bitAnd z ea eb h ∙ ap (λ (y : ℤ). M.both 8 ea (M.literal y)) (sym (mask-is z lo len w .reads))
-mask-fold (By k) z (Ones lo len) ea e₁ eb hs h w =
+-- by the ways in which a fold comes about
+folding-is :
+    {o : Arith} {s : Amount} {l : Lit} {f : Fold} (ea e₁ eb : Result) → ShiftIs s ea e₁ → LitIs l eb → Folding o s l f → FoldIs f o ea e₁ eb
+folding-is ea e₁ eb hs h general = tt
+folding-is ea e₁ eb hs h (mask {z} {lo} {len} e) =
+    with-literal bitAnd z ea eb h ∙ ap (λ (y : ℤ). M.both 8 ea (M.literal y)) (sym (mask-is z lo len (run-exactly z lo len .0 e)))
+folding-is ea e₁ eb hs h (shift-mask {k} {z} {lo} {len} e) =
     with-literal bitAnd z ea eb h
-    ∙ ap (λ (y : ℤ). M.both 8 ea (M.literal y)) (sym (mask-is z lo len w .reads))
+    ∙ ap (λ (y : ℤ). M.both 8 ea (M.literal y)) (sym (mask-is z lo len (run-exactly z lo len .0 e)))
     ∙ ap (λ (x : Result). M.both 8 x (M.mask lo len)) (hs ∙ sym (three-is rshift e₁ (is (Val.int (pos k)))))
-
-shift-fold :
-    (k : Shift) (o : Arith) (s : Amount) (ea e₁ eb : Result) → M.shiftKind k ≡ M.threeKind (threeOf o) → AmountIs s eb → FoldIs (shiftFold k s) o ea e₁ eb
-shift-fold k o NoShift ea e₁ eb e h = tt
-shift-fold k o (By n) ea e₁ eb e h = with-literal o (pos n) ea eb h ∙ ap (λ (m : ℕ). M.both m ea (M.literal (pos n))) (sym e)
-
-imm-fold :
-    (k : ImmArith) (o : Arith) (i : Imm) (ea e₁ eb : Result) → M.arithKind k ≡ M.threeKind (threeOf o) → ImmIs i eb → FoldIs (immFold k i) o ea e₁ eb
-imm-fold k o NoImm ea e₁ eb e h = tt
-imm-fold k o (Imm16 z) ea e₁ eb e h = with-literal o (z .n) ea eb h ∙ ap (λ (m : ℕ). M.both m ea (M.literal (z .n))) (sym e)
-
-fold-by : (o : Arith) (s : Amount) (z : ℤ) (ea e₁ eb : Result) → ShiftIs s ea e₁ → eb ≡ is (Val.int z) → FoldIs (foldBy o s z) o ea e₁ eb
-unfolding foldBy
-fold-by bitAnd s z ea e₁ eb hs h = mask-fold s z (bitRun z) ea e₁ eb hs h refl
-fold-by bitOr s z ea e₁ eb hs h = tt
-fold-by bitXor s z ea e₁ eb hs h = tt
-fold-by lshift s z ea e₁ eb hs h = shift-fold Shift.Left lshift (amountOf z) ea e₁ eb refl (amount-of z eb h)
-fold-by rshift s z ea e₁ eb hs h = shift-fold Shift.Right rshift (amountOf z) ea e₁ eb refl (amount-of z eb h)
-fold-by add s z ea e₁ eb hs h = imm-fold Plus add (immOf z) ea e₁ eb refl (imm-of z eb h)
-fold-by sub s z ea e₁ eb hs h = imm-fold Minus sub (immOf z) ea e₁ eb refl (imm-of z eb h)
-fold-by mul s z ea e₁ eb hs h = imm-fold Times mul (immOf z) ea e₁ eb refl (imm-of z eb h)
-fold-by div s z ea e₁ eb hs h = tt
-fold-by mod′ s z ea e₁ eb hs h = tt
-
-fold-lit : (o : Arith) (s : Amount) (l : Lit) (ea e₁ eb : Result) → ShiftIs s ea e₁ → LitIs l eb → FoldIs (foldLit o s l) o ea e₁ eb
-fold-lit o s Not ea e₁ eb hs h = tt
-fold-lit o s (Is z) ea e₁ eb hs h = fold-by o s z ea e₁ eb hs h
+folding-is ea e₁ eb hs h (shift-left {s} {z} {k} e) = with-literal lshift (pos k) ea eb (subst (λ (a : Amount). AmountIs a eb) e (amount-of z eb h))
+folding-is ea e₁ eb hs h (shift-right {s} {z} {k} e) = with-literal rshift (pos k) ea eb (subst (λ (a : Amount). AmountIs a eb) e (amount-of z eb h))
+folding-is ea e₁ eb hs h (plus {s} {z} {n} e) = with-literal add (n .n) ea eb (subst (λ (i : Imm). ImmIs i eb) e (imm-of z eb h))
+folding-is ea e₁ eb hs h (less {s} {z} {n} e) = with-literal sub (n .n) ea eb (subst (λ (i : Imm). ImmIs i eb) e (imm-of z eb h))
+folding-is ea e₁ eb hs h (times {s} {z} {n} e) = with-literal mul (n .n) ea eb (subst (λ (i : Imm). ImmIs i eb) e (imm-of z eb h))
 
 fold-is : (o : Arith) (a b : Tree) (ls : List Datum) → FoldIs (foldOf o a b) o (evalOf ls a) (firstOf ls a) (evalOf ls b)
-fold-is o a b ls = fold-lit o (shiftedBy a) (constOf b) (evalOf ls a) (firstOf ls a) (evalOf ls b) (shifted-is a ls) (const-is b ls)
+fold-is o a b ls = folding-is (evalOf ls a) (firstOf ls a) (evalOf ls b) (shifted-is a ls) (const-is b ls) (folding o (shiftedBy a) (constOf b))
 
 cmp-bool : (c : Cmp) (x y : Datum) → boolR (test (E.cmpOf c x y)) ≡ E.cmpOf c x y
 unfolding E.cmpOf
@@ -394,7 +365,7 @@ module _ (C : List ℕ) (W ls : List Datum) (b : ℕ) where
       let A = v Any n ks in
       let va = sa Any n ks up tt in
       let B = w Any (A .next) (ks ++ A .consts) in
-      let k = M.threeKind (threeOf o) in
+      let k = Forms.threeKind (threeOf o) in
       Sound.bin-sound C W ls b n ks A B ea eb dst (λ d. Op.Three (threeOf o) d (A .reg) (B .reg)) (M.both k) up low va
       (sb Any (A .next) (ks ++ A .consts) (omega (linear, va .more)) tt) (λ reg slot d. three-asks o reg slot d (A .reg) (B .reg)) (both-left k) (both-right k))
 
@@ -403,14 +374,11 @@ module _ (C : List ℕ) (W ls : List Datum) (b : ℕ) where
       Values (arithF f (threeOf o) v w₁ w) (Apply.both (E.arithOf o) ea eb)
   arith-values General o v w₁ w ea e₁ eb h sa s₁ sb = three-values o v w ea eb sa sb
   arith-values (Into tail) o v w₁ w ea e₁ eb h sa s₁ sb =
-      value-as (sym h) (tail-values tail (operandF tail v w₁) (operandR tail ea e₁) (operand tail))
+      value-as (sym h) (tail-values tail (operandF tail v w₁) (operandR tail ea e₁) (operand (takesShift tail)))
     where
-      operand : (tail : Tail) → Values (operandF tail v w₁) (operandR tail ea e₁)
-      operand Tail.Not = sa
-      operand (Tail.Imm o z) = sa
-      operand (Tail.Shift o k) = sa
-      operand (Tail.Mask lo len) = sa
-      operand (Tail.ShiftMask k lo len) = s₁
+      operand : (t : Bool) → Values (cond t w₁ v) (cond t e₁ ea)
+      operand true = s₁
+      operand false = sa
 
   -- a register against a literal: t is the test
   imm-branches :
@@ -418,8 +386,8 @@ module _ (C : List ℕ) (W ls : List Datum) (b : ℕ) where
       ((n : ℕ) → t (fault n) ≡ wrong n) → Values v e → Branches (λ sense. unaryTestF v (immOn (branchOf c sense) z)) (t e)
   imm-branches c z v e t h strict s sense n ks up =
       let A = v Any n ks in
-      Sound.un-leap C W ls b sense n ks A e (immOn (branchOf c sense) z (A .reg)) (λ r. M.compare (branchOf c sense) r (M.literal (z .n))) t (s Any n ks up tt)
-      (λ reg slot j. refl) (λ x. jump-is c sense (is x) (is (Val.int (z .n))) ∙ ap (sameT sense) (h x)) strict
+      Sound.un-leap C W ls b sense n ks A e (immOn (branchOf c sense) z (A .reg)) (λ r. Forms.jumpTest (branchOf c sense) r (M.literal (z .n))) t (s Any n ks up tt)
+      (λ reg slot j. jump-imm-form reg slot (branchOf c sense) (A .reg) z (record { by = pos j })) (λ x. jump-is c sense (is x) (is (Val.int (z .n))) ∙ ap (sameT sense) (h x)) strict
 
   pair-branches :
       (c : Cmp) (v w : ValueF) (ea eb : Result) → Values v ea → Values w eb →
@@ -428,9 +396,9 @@ module _ (C : List ℕ) (W ls : List Datum) (b : ℕ) where
       let A = v Any n ks in
       let va = sa Any n ks up tt in
       let B = w Any (A .next) (ks ++ A .consts) in
-      Sound.bin-leap C W ls b sense n ks A B ea eb (pairOn (branchOf c sense) (A .reg) (B .reg)) (M.compare (branchOf c sense))
-      (λ x y. test (Apply.both (E.cmpOf c) x y)) up va (sb Any (A .next) (ks ++ A .consts) (omega (linear, va .more)) tt) (λ reg slot j. refl)
-      (λ x y. jump-is c sense (is x) (is y)) (cmp-left c) (cmp-right c)
+      Sound.bin-leap C W ls b sense n ks A B ea eb (pairOn (branchOf c sense) (A .reg) (B .reg)) (Forms.jumpTest (branchOf c sense))
+      (λ x y. test (Apply.both (E.cmpOf c) x y)) up va (sb Any (A .next) (ks ++ A .consts) (omega (linear, va .more)) tt)
+      (λ reg slot j. jump-form reg slot (branchOf c sense) (A .reg) (B .reg) (record { by = pos j })) (λ x y. jump-is c sense (is x) (is y)) (cmp-left c) (cmp-right c)
 
   compare-branches :
       (c : Cmp) (l r : Imm) (v w : ValueF) (ea eb : Result) → ImmIs l ea → ImmIs r eb → Values v ea → Values w eb →
@@ -502,8 +470,8 @@ module _ (C : List ℕ) (W ls : List Datum) (b : ℕ) where
         branches =
             λ sense n ks up.
             let A = v Any n ks in
-            Sound.un-leap C W ls b sense n ks A e (testOn sense (A .reg)) (M.senseOf (cond sense Sense.Yes Sense.No)) test (s Any n ks up tt)
-            (λ reg slot j. refl) (λ x. sense-is sense (is x)) (λ m. refl);
+            Sound.un-leap C W ls b sense n ks A e (testOn sense (A .reg)) (Forms.ifTest (cond sense Sense.Yes Sense.No)) test (s Any n ks up tt)
+            (λ reg slot j. if-form reg slot (cond sense Sense.Yes Sense.No) (A .reg) (record { by = pos j })) (λ x. sense-is sense (is x)) (λ m. refl);
         firsts = s₁;
       }
 
