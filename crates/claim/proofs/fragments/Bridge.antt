@@ -11,7 +11,7 @@ use lib.Dec.{eqb}
 use Rattle.faults.specs.Limits.{maxRegisters}
 use Rattle.insns.specs.declared.op.Op.{Op}
 use Rattle.insns.specs.declared.op.Three.{Three}
-use Rattle.insns.specs.Insns.{threeOp}
+use Rattle.insns.specs.Opcodes.{threeOp}
 use Rattle.insns.specs.declared.op.Shift.{Shift}
 use Rattle.insns.specs.declared.op.Cmp.{Cmp as JumpCmp}
 use Rattle.insns.specs.declared.op.Imm40.{Imm40}
