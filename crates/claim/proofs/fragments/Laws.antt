@@ -11,7 +11,7 @@ use lib.Signed.{ltZ}
 use lib.Pow.{pow-add, pow-pos}
 use mir.Syntax.{w64}
 use mir.Val.{toZ}
-use borrow.Author.Tests.{ltb-true, eqb-true, ne-eqb, lt-ltb, leb-true}
+use borrow.Author.Tests.{eqb-true, ne-eqb, lt-ltb, leb-true}
 use Rattle.insns.specs.declared.op.Sense.the-variants as Sense
 use Rattle.value.specs.Value.{Datum, nil, bool, int, float}
 use Rattle.value.specs.Answer.{Result, is, fault, truth as yes, isNumber}
@@ -57,10 +57,7 @@ unfolding M.rawOf
 raw-int (pos n) h =
     rw (ne-eqb (4 * n) 1 (omega arith), ne-eqb (4 * n) 5 (omega arith), ne-eqb (4 * n) 9 (omega arith))
     (ap (λ (k : ℕ). is (int (pos k))) (mul-div-right n (omega arith)))
-raw-int (negsuc n) h =
-    let small : n < 2 ^ 37 = ltb-true n (2 ^ 37) h in
-    let m = 2 ^ 64 - suc (4 * n + 3) in
-    rw (raw-down n, ne-eqb m 1 (omega arith), ne-eqb m 5 (omega arith), ne-eqb m 9 (omega arith)) (ap (λ (k : ℕ). is (int (negsuc k))) (quarter n))
+raw-int (negsuc n) h = rw (raw-down n) (ap (λ (k : ℕ). is (int (negsuc k))) (quarter n))
 
 -- ---- one run of ones
 
