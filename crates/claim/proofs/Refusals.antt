@@ -10,8 +10,6 @@ use Rattle.faults.specs.Numbers.{badShape, noRegister, noRoom}
 use Rattle.table.specs.Table.{nodeCount, kindAt, payloadAt, firstAt, depthAt, arity, tempBase, kindFault, children, spanFault, limitFault, nodeFault, nodesFault, shapeFault, layoutFault, destFault, lastFault, checkOf}
 use Rattle.table.specs.declared.Dest.{Dest}
 use Rattle.table.specs.declared.Dest.the-variants.{None, Reg}
-use Rattle.table.specs.declared.Span.{Span}
-use Rattle.table.specs.declared.Span.the-variants.{Missing, Between}
 use Rattle.table.specs.Tree.{tree}
 use Rattle.emit.specs.State.{Res, done, fail, State}
 use Rattle.compile.specs.Compile.{generated, accepted, compileOf}
@@ -33,10 +31,11 @@ unfolding _or-else_
 else-most zero b h k = k
 else-most (suc a) b h k = h
 
-span-most : (s : Span) (f d : ℕ) → spanFault s f d ≤ 5
-unfolding spanFault
-span-most Missing f d = omega arith
-span-most (Between e g) f d = else-most _ _ (fault-most _ (omega arith)) (fault-most _ (omega arith))
+span-most : (ws : List ℕ) (n e g f d : ℕ) → spanFault (children ws n e g) f d ≤ 5
+unfolding spanFault children
+span-most ws zero e g f d = else-most _ _ (fault-most _ (omega arith)) (fault-most _ (omega arith))
+span-most ws (suc n) zero g f d = omega arith
+span-most ws (suc n) (suc j) g f d = span-most ws n (firstAt ws j) (max g (depthAt ws j)) f d
 
 nodes-most : (ws : List ℕ) (base n : ℕ) → nodesFault ws base n ≤ 5
 unfolding nodesFault nodeFault
@@ -44,7 +43,7 @@ nodes-most ws base zero = omega arith
 nodes-most ws base (suc n) =
     else-most (nodesFault ws base n) _ (nodes-most ws base n)
     (else-most (kindFault (kindAt ws n) (payloadAt ws n)) _ (else-most _ _ (fault-most _ (omega arith)) (fault-most _ (omega arith)))
-    (else-most (spanFault (children ws (arity (kindAt ws n)) n 0) (firstAt ws n) (depthAt ws n)) _ (span-most _ (firstAt ws n) (depthAt ws n))
+    (else-most (spanFault (children ws (arity (kindAt ws n)) n 0) (firstAt ws n) (depthAt ws n)) _ (span-most ws (arity (kindAt ws n)) n 0 (firstAt ws n) (depthAt ws n))
     (else-most _ _ (fault-most _ (omega arith)) (fault-most _ (omega arith)))))
 
 dest-most : (dest : Dest) (base : ℕ) → destFault dest base ≤ 5
