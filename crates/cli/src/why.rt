@@ -1,12 +1,20 @@
 // Why a table is refused: the first node at fault, and what is at fault there. The number is the check's own; this finds the place.
-ghost use Prim.Native.Nat.{_<_};
+ghost use Prim.Native.Nat.{_≤_};
+ghost use lib.ListN.{length};
+use crate::gather::past;
+use crate::trouble::say_at;
 use print::Numbers;
 use print::four;
+use print::none;
 use print::one;
 use print::say;
 use print::tell;
 use print::tell_line;
 use print::two;
+use reader::Line;
+use reader::head::Head;
+use reader::head::base_of;
+use reader::read;
 
 // What is at fault at a node; 0 where nothing is.
 const KIND: u64 = 1;
@@ -21,39 +29,43 @@ const DEEP: u64 = 5;
 
 const REGISTER: u64 = 6;
 
-// What is known of a node: what the completed table has, and what a line gave.
+// What is known of a node: what the completed table has, and what its line gave.
 struct Seen {
     kind: u64,
     payload: u64,
     first: u64,
     depth: u64,
-    given: u64,
+    given: bool,
     first_given: u64,
     depth_given: u64,
-    line: u64,
 }
 
 // What stands at a position; 0 past the end.
-pub fn get(a: &[u64], at: usize) -> u64 {
+fn get(a: &[u64], at: usize) -> u64 {
     if at < a.len() {
         return a[at];
     }
     0
 }
 
-fn look(nodes: &[u64], marks: &[u64], i: usize) -> Seen
-    requires { ⌜ i < 4611686018427387904 ⌝ }
+fn look(nodes: &[u64], i: usize, l: Line) -> Seen
+    requires { ⌜ i ≤ 4097 ⌝ }
 {
-    Seen {
+    let mut s = Seen {
         kind: get(nodes, 4 * i),
         payload: get(nodes, 4 * i + 1),
         first: get(nodes, 4 * i + 2),
         depth: get(nodes, 4 * i + 3),
-        given: get(marks, 4 * i),
-        first_given: get(marks, 4 * i + 1),
-        depth_given: get(marks, 4 * i + 2),
-        line: get(marks, 4 * i + 3),
+        given: false,
+        first_given: 0,
+        depth_given: 0,
+    };
+    if let Line::Given(_, _, f, d) = l {
+        s.given = true;
+        s.first_given = f;
+        s.depth_given = d;
     }
+    s
 }
 
 // A kind that is known, and a payload that the kind has.
@@ -75,7 +87,7 @@ fn why_given(s: Seen) -> u64 {
     if s.depth == 0 {
         return CHILD;
     }
-    if s.given != 1 {
+    if !s.given {
         return 0;
     }
     if s.first_given != s.first {
@@ -107,17 +119,76 @@ fn why(s: Seen, base: u64) -> u64 {
     why_limit(s, base)
 }
 
-// The first node at fault of a completed table; the number of nodes where there is none.
-fn first_at_fault(nodes: &[u64], marks: &[u64], base: u64) -> usize {
-    let n = nodes.len() / 4;
-    let mut i = 0;
-    while i < n {
-        if why(look(nodes, marks, i), base) != 0 {
-            return i;
+// A node at fault: its number, where its line begins in the text, and the line's number.
+struct Spot {
+    node: usize,
+    at: usize,
+    line: u64,
+}
+
+fn is_node(l: Line) -> bool {
+    match l {
+        Line::Node(_, _) => true,
+        Line::Given(_, _, _, _) => true,
+        _ => false,
+    }
+}
+
+// The number of the next node, after a line. No table that comes here has more than 4096.
+fn next_node(n: usize, l: Line) -> usize
+    requires { ⌜ n ≤ 4097 ⌝ }
+    ensures { λ r. ⌜ r ≤ 4097 ⌝ }
+{
+    if is_node(l) {
+        if n < 4097 {
+            return n + 1;
         }
-        i += 1;
     }
     n
+}
+
+fn next_line(n: u64) -> u64 {
+    if n < 18446744073709551615 {
+        return n + 1;
+    }
+    n
+}
+
+fn is_at_fault(nodes: &[u64], n: usize, l: Line, base: u64) -> bool
+    requires { ⌜ n ≤ 4097 ⌝ }
+{
+    if is_node(l) {
+        return why(look(nodes, n, l), base) != 0;
+    }
+    false
+}
+
+// The first node at fault of a completed table; the number of nodes where there is none.
+fn first_at_fault(nodes: &[u64], s: &[u8], line: u64, base: u64) -> Spot
+    ensures { λ r. ⌜ r .node ≤ 4097 ⌝ }
+    ensures { λ r. ⌜ r .at ≤ length (now (s .entry)) ⌝ }
+{
+    let mut t = Spot {
+        node: 0,
+        at: 0,
+        line: line,
+    };
+    loop {
+        let from = t.at;
+        if from == s.len() {
+            return t;
+        }
+        let e = bytes::scan::find(s, from, s.len(), b'\n');
+        let l = read(&s[from..e]);
+        if is_at_fault(nodes, t.node, l, base) {
+            return t;
+        }
+        t = Spot {
+            node: next_node(t.node, l),
+            at: past(s, e),
+            line: next_line(t.line),
+        };
+    }
 }
 
 // The numbers that the text of a fault has.
@@ -131,10 +202,8 @@ fn numbers(w: u64, s: Seen, base: u64) -> Numbers {
     }
 }
 
-// What is at fault at a node, as the refusal's second line.
-fn say_place(i: usize, s: Seen, base: u64) {
+fn say_seen(s: Seen, base: u64) {
     let w = why(s, base);
-    tell(b"  at node %, line %: ", two(i as u64, s.line));
     tell_line(
         b"nothing is at fault there\n\
           no kind has the number %\n\
@@ -149,16 +218,38 @@ fn say_place(i: usize, s: Seen, base: u64) {
     say(b"\n");
 }
 
-// The node at fault, if it is a node that is; else what is.
-pub fn say_where(nodes: &[u64], marks: &[u64], base: u64, dest: u64) {
-    if base < dest {
-        say(b"  the destination is at fault\n");
+// What is at fault at a node.
+fn say_spot(name: &[u8], nodes: &[u64], s: &[u8], t: Spot, base: u64)
+    requires { ⌜ t .node ≤ 4097 ⌝ }
+    requires { ⌜ t .at ≤ length (now s) ⌝ }
+{
+    let from = t.at;
+    let e = bytes::scan::find(s, from, s.len(), b'\n');
+    say_at(name, t.line);
+    tell(b"node %: ", one(t.node as u64));
+    say_seen(look(nodes, t.node, read(&s[from..e])), base);
+}
+
+// Where the fault is that the check found, as the refusal's second line.
+pub fn say_where(name: &[u8], nodes: &[u64], s: &[u8], line: u64, h: Head) {
+    let base = base_of(h);
+    say(b"  ");
+    if base < h.dest {
+        say_at(name, h.dest_line);
+        tell(
+            b"destination r% is not below the base, %\n",
+            two(h.dest - 1, base),
+        );
         return;
     }
-    let i = first_at_fault(nodes, marks, base);
-    if i < nodes.len() / 4 {
-        say_place(i, look(nodes, marks, i), base);
+    let t = first_at_fault(nodes, s, line, base);
+    if t.node < nodes.len() / 4 {
+        say_spot(name, nodes, s, t, base);
         return;
     }
-    say(b"  the last node does not take in all nodes before it\n");
+    say_at(name, h.node_line);
+    tell(
+        b"the last node does not take in all nodes before it\n",
+        none(),
+    );
 }

@@ -1,4 +1,4 @@
--- `gather::end_of` meets its contract. The invariant: the position lies within the text, past the first line after a turn. Assumes nothing.
+-- `gather::end_of` meets its contract. The invariant: the position lies within the text, past the first line after a turn.
 use Prim.Native.Nat.{_≤_, _-_}
 use lib.ListN.{length}
 use borrow.Author.Needs.{needs}
