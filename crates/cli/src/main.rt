@@ -6,15 +6,15 @@ mod show;
 mod trouble;
 mod why;
 
-use crate::gather::end_of;
 use crate::gather::head_of;
-use crate::gather::put_nodes;
-use crate::gather::put_values;
 use crate::show::Outcome;
 use crate::show::show;
 use print::four;
 use print::say;
 use print::tell;
+use reader::gather::end_of;
+use reader::gather::put_nodes;
+use reader::gather::put_values;
 use reader::head::Head;
 
 // Room for a text, for one node more than a table may have, and for as many values as there are registers.

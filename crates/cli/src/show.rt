@@ -1,5 +1,4 @@
 // An expression that could be read: its words, and what the tree and the words answer.
-use crate::gather::put_spans;
 use crate::list::list_words;
 use crate::trouble::say_at;
 use crate::why::say_where;
@@ -13,6 +12,7 @@ use print::tell;
 use print::tell_line;
 use print::three;
 use print::two;
+use reader::gather::put_spans;
 use reader::head::Head;
 use reader::head::base_of;
 use reader::head::locals_of;

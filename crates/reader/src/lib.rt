@@ -1,5 +1,8 @@
-// What a line of an expression's text says, and what its lines have said so far (`head`).
+// The text of an expression: what a line says; what its lines have said so far (`head`); its nodes and values (`gather`); which node a refusal is
+// about (`why`).
+pub mod gather;
 pub mod head;
+pub mod why;
 
 use text::decimal::Real;
 use text::decimal::float;

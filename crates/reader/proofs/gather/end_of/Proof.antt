@@ -2,8 +2,8 @@
 use Prim.Native.Nat.{_≤_, _-_}
 use lib.ListN.{length}
 use borrow.Author.Needs.{needs}
-use Rattle.cli.proofs.gather.end_of.Statement.{statement}
-use Rattle.cli.proofs.gather.end_of.Tie as tie
+use Rattle.reader.proofs.gather.end_of.Statement.{statement}
+use Rattle.reader.proofs.gather.end_of.Tie as tie
 
 abbrev Inv-loop : tie.InvT-loop
 Inv-loop s from at₀ at = (from ≤ at) × (at ≤ length s)

@@ -3,8 +3,8 @@ use mathlib.Core.Path.{_≡_}
 use Prim.Native.Nat.{_≤_, _-_}
 use lib.ListN.{length}
 use borrow.Author.Needs.{needs}
-use Rattle.cli.proofs.gather.put_nodes.Statement.{statement}
-use Rattle.cli.proofs.gather.put_nodes.Tie as tie
+use Rattle.reader.proofs.gather.put_nodes.Statement.{statement}
+use Rattle.reader.proofs.gather.put_nodes.Tie as tie
 
 abbrev Inv-loop : tie.InvT-loop
 Inv-loop s nodes₀ n₀ at₀ nodes n at = (at ≤ length s) × (length nodes ≡ length nodes₀)

@@ -2,8 +2,8 @@
 use Prim.Native.Nat.{_≤_, _-_}
 use lib.ListN.{length}
 use borrow.Author.Needs.{needs}
-use Rattle.cli.proofs.why.first_at_fault.Statement.{statement}
-use Rattle.cli.proofs.why.first_at_fault.Tie as tie
+use Rattle.reader.proofs.why.first_at_fault.Statement.{statement}
+use Rattle.reader.proofs.why.first_at_fault.Tie as tie
 
 abbrev Inv-loop : tie.InvT-loop
 Inv-loop nodes s line base t₀ t = (t .at ≤ length s) × (t .node ≤ 4097)

@@ -3,8 +3,8 @@ use mathlib.Core.Path.{_≡_}
 use Prim.Native.Nat.{_≤_, _-_}
 use lib.ListN.{length}
 use borrow.Author.Needs.{needs}
-use Rattle.cli.proofs.gather.put_values.Statement.{statement}
-use Rattle.cli.proofs.gather.put_values.Tie as tie
+use Rattle.reader.proofs.gather.put_values.Statement.{statement}
+use Rattle.reader.proofs.gather.put_values.Tie as tie
 
 abbrev Inv-loop : tie.InvT-loop
 Inv-loop s kinds₀ payloads₀ n₀ at₀ kinds payloads n at = (at ≤ length s) × (length kinds ≡ length kinds₀) × (length payloads ≡ length payloads₀)
