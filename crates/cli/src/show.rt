@@ -1,7 +1,6 @@
-// An expression that was read: its words, and what the tree and the words answer.
-use crate::gather::put_two;
+// An expression that could be read: its words, and what the tree and the words answer.
 use crate::list::list_words;
-use crate::why::get;
+use crate::trouble::say_at;
 use crate::why::say_where;
 use compile::buffers::Compiled;
 use machine::run::Ran;
@@ -13,10 +12,22 @@ use print::tell;
 use print::tell_line;
 use print::three;
 use print::two;
+use reader::gather::put_spans;
 use reader::head::Head;
+use reader::head::base_of;
+use reader::head::locals_of;
 use table::Dest;
 use value::answer::Answer;
-ghost use Prim.Native.Nat.{_<_, _≤_};
+ghost use Prim.Native.Nat.{_≤_};
+
+// What became of an expression.
+pub enum Outcome {
+    Value,
+    Refused,
+    Fault,
+    Unreadable,
+    Nothing,
+}
 
 // Room for words and for constants. An accepted table has no more constants than nodes.
 const WORDS: usize = 16384;
@@ -38,26 +49,6 @@ fn dest_of(d: u64) -> Dest {
         return Dest::None;
     }
     Dest::Reg(d - 1)
-}
-
-fn locals_of(h: Head) -> u64 {
-    if h.locals_said {
-        return h.locals;
-    }
-    let n = h.values as u64;
-    if n < h.params {
-        return 0;
-    }
-    n - h.params
-}
-
-// Parameters and locals, where 64 bits hold their sum; a layout that they do not hold is refused before any node.
-fn base_of(h: Head) -> u64 {
-    let n = locals_of(h);
-    if n <= 18446744073709551615 - h.params {
-        return h.params + n;
-    }
-    18446744073709551615
 }
 
 // The meaning of a number that a caller can get back, and the line's end.
@@ -138,26 +129,29 @@ fn list(words: &[u64], slot_kinds: &[u8], slot_payloads: &[u64], register: u16, 
     );
 }
 
-fn say_tree(a: Answer) {
+// Whether the tree has a value.
+fn say_tree(a: Answer) -> bool {
     match a {
         Answer::Is(v) => {
             say_value(value::kind_of(v), value::payload_of(v));
             say(b"\n");
+            true
         }
         Answer::Fault(n) => {
             tell(b"fault %", one(n as u64));
             say_meaning(n);
+            false
         }
     }
 }
 
 // The values that are given, and the tree's answer.
-fn say_evaluated(nodes: &[u64], kinds: &[u8], payloads: &[u64], h: Head) {
+fn say_evaluated(nodes: &[u64], kinds: &[u8], payloads: &[u64], h: Head) -> bool {
     let n = within(h.values, kinds.len());
     say(b"values:\n");
     list_pairs(b"  r% = ", &kinds[..n], payloads);
     say(b"tree:  ");
-    say_tree(eval::evaluate(nodes, h.params, locals_of(h), &kinds[..n], payloads));
+    say_tree(eval::evaluate(nodes, h.params, locals_of(h), &kinds[..n], payloads))
 }
 
 fn say_steps(n: u64) {
@@ -168,56 +162,35 @@ fn say_steps(n: u64) {
     );
 }
 
-fn say_run(r: Ran, kinds: &[u8], payloads: &[u64], register: usize) {
-    if r.number != 0 {
-        tell(
-            b"fault % at word %",
-            two(r.number as u64, r.position as u64),
-        );
-        say_steps(r.steps);
-        say_meaning(r.number);
-        return;
-    }
+// The value of a register.
+fn say_register(kinds: &[u8], payloads: &[u64], register: usize) {
     if register < kinds.len() {
         if register < payloads.len() {
             say_value(kinds[register], payloads[register]);
         }
     }
     tell(b" in r%", one(register as u64));
-    say_steps(r.steps);
-    say(b"\n");
 }
 
-// The words' answer. Registers past the values are Nil before a run; without a value for each parameter and local the words are not run.
-fn run(
-    words: &[u64],
-    slot_kinds: &[u8],
-    slot_payloads: &[u64],
-    kinds: &mut [u8],
-    payloads: &mut [u64],
-    register: u16,
-    frame: u16,
-    h: Head,
-) {
-    let n = within(frame as usize, kinds.len());
-    say(b"words: ");
-    if (h.values as u64) < base_of(h) {
-        tell(
-            b"not run: % of % registers have a value\n",
-            two(h.values as u64, base_of(h)),
-        );
-        return;
-    }
-    let r = run::run(
-        words,
-        0,
-        &mut kinds[..n],
-        payloads,
-        slot_kinds,
-        slot_payloads,
-        h.budget,
+fn say_stop(r: Ran) {
+    tell(
+        b"fault % at word %",
+        two(r.number as u64, r.position as u64),
     );
-    say_run(r, kinds, payloads, register as usize);
+    say_steps(r.steps);
+    say_meaning(r.number);
+}
+
+// Whether the words end with a value.
+fn say_run(r: Ran, kinds: &[u8], payloads: &[u64], register: usize) -> bool {
+    if r.number != 0 {
+        say_stop(r);
+        return false;
+    }
+    say_register(kinds, payloads, register);
+    say_steps(r.steps);
+    say(b"\n");
+    true
 }
 
 // What compiling gave, as numbers: words, constants, register and frame, or the number of a refusal.
@@ -248,8 +221,53 @@ fn out_of(c: Compiled) -> Out {
     }
 }
 
-// What compiling gave, and what the tree and the words answer.
-fn outcome(
+// The words' answer. Registers past the values are Nil before a run.
+fn run(
+    words: &[u64],
+    slot_kinds: &[u8],
+    slot_payloads: &[u64],
+    kinds: &mut [u8],
+    payloads: &mut [u64],
+    o: Out,
+    budget: u64,
+) -> bool {
+    let n = within(o.frame as usize, kinds.len());
+    let r = run::run(
+        words,
+        0,
+        &mut kinds[..n],
+        payloads,
+        slot_kinds,
+        slot_payloads,
+        budget,
+    );
+    say_run(r, kinds, payloads, o.register as usize)
+}
+
+// Whether each parameter and local has a value. Without them the words are not run, which is told.
+fn is_ready(h: Head) -> bool {
+    say(b"words: ");
+    if base_of(h) <= h.values as u64 {
+        return true;
+    }
+    tell(
+        b"not run: % of % registers have a value\n",
+        two(h.values as u64, base_of(h)),
+    );
+    false
+}
+
+fn joint(tree: bool, words: bool) -> Outcome {
+    if tree {
+        if words {
+            return Outcome::Value;
+        }
+    }
+    Outcome::Fault
+}
+
+// The words that were made, then the answers.
+fn answers(
     o: Out,
     nodes: &[u64],
     words: &[u64],
@@ -258,35 +276,57 @@ fn outcome(
     kinds: &mut [u8],
     payloads: &mut [u64],
     h: Head,
-) {
+) -> Outcome {
+    list(words, slot_kinds, slot_payloads, o.register, o.frame);
+    let tree = say_evaluated(nodes, kinds, payloads, h);
+    if is_ready(h) {
+        return joint(
+            tree,
+            run(
+                words,
+                slot_kinds,
+                slot_payloads,
+                kinds,
+                payloads,
+                o,
+                h.budget,
+            ),
+        );
+    }
+    Outcome::Fault
+}
+
+// What compiling gave: a refusal, or as many words and constants as there are.
+fn compiled(
+    o: Out,
+    nodes: &[u64],
+    words: &[u64],
+    slot_kinds: &[u8],
+    slot_payloads: &[u64],
+    kinds: &mut [u8],
+    payloads: &mut [u64],
+    h: Head,
+) -> Outcome {
     if o.number != faults::NONE {
         say_refused(o.number);
-        return;
+        return Outcome::Refused;
     }
     let w = within(o.words, words.len());
     let k = within(o.slots, slot_kinds.len());
-    list(
-        &words[..w],
-        &slot_kinds[..k],
-        slot_payloads,
-        o.register,
-        o.frame,
-    );
-    say_evaluated(nodes, kinds, payloads, h);
-    run(
+    answers(
+        o,
+        nodes,
         &words[..w],
         &slot_kinds[..k],
         slot_payloads,
         kinds,
         payloads,
-        o.register,
-        o.frame,
         h,
-    );
+    )
 }
 
 // The words, in room for those of every accepted table.
-fn compile(nodes: &[u64], kinds: &mut [u8], payloads: &mut [u64], h: Head) {
+fn compile(nodes: &[u64], kinds: &mut [u8], payloads: &mut [u64], h: Head) -> Outcome {
     let mut code = [0u64; WORDS];
     let mut slot_kinds = [0u8; SLOTS];
     let mut slot_payloads = [0u64; SLOTS];
@@ -299,7 +339,7 @@ fn compile(nodes: &[u64], kinds: &mut [u8], payloads: &mut [u64], h: Head) {
         &mut slot_kinds,
         &mut slot_payloads,
     );
-    outcome(
+    compiled(
         out_of(c),
         nodes,
         &code,
@@ -308,36 +348,13 @@ fn compile(nodes: &[u64], kinds: &mut [u8], payloads: &mut [u64], h: Head) {
         kinds,
         payloads,
         h,
-    );
-}
-
-// The first and depth of node i that were given, in place of those that its children give.
-fn put_mark(nodes: &mut [u64], marks: &[u64], i: usize)
-    requires { ⌜ i < 4611686018427387904 ⌝ }
-{
-    if get(marks, 4 * i) == 1 {
-        put_two(
-            nodes,
-            4 * i + 2,
-            get(marks, 4 * i + 1),
-            get(marks, 4 * i + 2),
-        );
-    }
-}
-
-fn put_given(nodes: &mut [u64], marks: &[u64]) {
-    let n = nodes.len() / 4;
-    let mut i = 0;
-    while i < n {
-        put_mark(nodes, marks, i);
-        i += 1;
-    }
+    )
 }
 
 // The number of the check of a table that is completed, with the first and depth that were given. One that is refused is completed again.
-fn number_of(nodes: &mut [u64], marks: &[u64], h: Head) -> u8 {
+fn number_of(s: &[u8], nodes: &mut [u64], h: Head) -> u8 {
     table::complete::complete(nodes);
-    put_given(nodes, marks);
+    put_spans(s, nodes);
     let n = table::check::check(nodes, h.params, locals_of(h), dest_of(h.dest));
     if n != faults::NONE {
         table::complete::complete(nodes);
@@ -345,55 +362,58 @@ fn number_of(nodes: &mut [u64], marks: &[u64], h: Head) -> u8 {
     n
 }
 
-// The number of the check, and for 2, 3 and 4 what is at fault.
-fn refuse(n: u8, nodes: &[u64], marks: &[u64], h: Head) {
+// Where an expression begins, as the second line of a refusal that no node is to blame for.
+fn say_from(name: &[u8], line: u64) {
+    say(b"  ");
+    say_at(name, line);
+    say(b"the expression that begins here\n");
+}
+
+// The number of the check, and where its fault is; of 1 and 5, the expression.
+fn refuse(n: u8, name: &[u8], s: &[u8], line: u64, nodes: &[u64], h: Head) {
     say_refused(n);
-    if n < faults::BAD_NODE {
-        return;
+    if faults::BAD_NODE <= n {
+        if n <= faults::NOT_LOCAL {
+            say_where(name, nodes, s, line, h);
+            return;
+        }
     }
-    if faults::NOT_LOCAL < n {
-        return;
-    }
-    say_where(nodes, marks, base_of(h), h.dest);
+    say_from(name, line);
 }
 
-// A text that cannot be read.
-fn say_trouble(h: Head) {
-    tell(b"line %", one(h.trouble_line));
-    tell_line(
-        b"\n\
-          : no kind of node, and no other word that a line can begin with\n\
-          : this is no number\n\
-          : 64 bits do not hold this number (an Int lies from -2^63 to 2^63 - 1)\n\
-          : no float is equal to this decimal: give the pattern of the one that is meant, as 0x3fb999999999999a\n\
-          : a number is missing\n\
-          : there is more on this line than is read\n\
-          : first and depth are given together, or not at all\n\
-          : a value is nil, true, false, int N or float X\n\
-          : more than 65535 values",
-        h.trouble,
-        none(),
-    );
-    say(b"\n");
-}
-
-// A table that could be read.
-fn show_table(nodes: &mut [u64], marks: &[u64], kinds: &mut [u8], payloads: &mut [u64], h: Head) {
-    say_layout(h);
-    let n = number_of(nodes, marks, h);
+// A table of as many nodes as there are.
+fn show_table(
+    name: &[u8],
+    s: &[u8],
+    line: u64,
+    nodes: &mut [u64],
+    kinds: &mut [u8],
+    payloads: &mut [u64],
+    h: Head,
+) -> Outcome {
+    let n = number_of(s, nodes, h);
     if n != faults::NONE {
-        refuse(n, nodes, marks, h);
-        return;
+        refuse(n, name, s, line, nodes, h);
+        return Outcome::Refused;
     }
-    compile(nodes, kinds, payloads, h);
+    let o = compile(nodes, kinds, payloads, h);
+    if let Outcome::Refused = o {
+        say_from(name, line);
+    }
+    o
 }
 
-// All of an expression.
-pub fn show(nodes: &mut [u64], marks: &[u64], kinds: &mut [u8], payloads: &mut [u64], h: Head) {
-    if h.trouble != 0 {
-        say_trouble(h);
-        return;
-    }
+// An expression that can be read, and whose text begins on a line.
+pub fn show(
+    name: &[u8],
+    s: &[u8],
+    line: u64,
+    nodes: &mut [u64],
+    kinds: &mut [u8],
+    payloads: &mut [u64],
+    h: Head,
+) -> Outcome {
     let room = within(4 * within(h.nodes, 4097), nodes.len());
-    show_table(&mut nodes[..room], marks, kinds, payloads, h);
+    say_layout(h);
+    show_table(name, s, line, &mut nodes[..room], kinds, payloads, h)
 }

@@ -1,4 +1,4 @@
-// A float as a decimal, never rounded: where its digits are too many to be of use, as a whole number times a power of two.
+// A float as a decimal, never rounded. Where its digits are too many to be of use it stands as a whole number times a power of two.
 use crate::none;
 use crate::say;
 use crate::say_number;
@@ -82,21 +82,56 @@ fn say_product(below: u64, m: u64, k: u64) {
     tell_line(b"% * 2^%\n% * 2^-%", below, two(m, k));
 }
 
+fn least(a: u64, b: u64) -> u64
+    ensures { λ r. ⌜ r ≤ b ⌝ }
+{
+    if a < b {
+        return a;
+    }
+    b
+}
+
+fn wide(n: u32) -> u64 {
+    n as u64
+}
+
+// How many factors of two m has.
+fn twos(m: u64) -> u64 {
+    wide(u64::trailing_zeros(m))
+}
+
+// m / 2^k, without the factors of two that both have. Past 60 digits after the point a decimal is of no use.
+fn say_small(m: u64, k: u64) {
+    let t = least(twos(m), k);
+    let n = m / power(t);
+    if k - t <= 60 {
+        say_ratio(n, k - t);
+        return;
+    }
+    say_product(1, n, k - t);
+}
+
+// m * 2^k, for m of 53 binary digits; from 2^64 on as a product.
+fn say_large(m: u64, k: u64)
+    requires { ⌜ k ≤ 1024 ⌝ }
+{
+    let t = least(twos(m), 60);
+    if k <= 11 {
+        say_number(doubled(m, k));
+        return;
+    }
+    say_product(0, m / power(t), k + t);
+}
+
 // m * 2^(e - 1075), for m of 53 binary digits.
-fn say_scaled(m: u64, e: u64) {
-    if e > 1086 {
-        say_product(0, m, e - 1075);
-        return;
-    }
+fn say_scaled(m: u64, e: u64)
+    requires { ⌜ e ≤ 2047 ⌝ }
+{
     if e >= 1075 {
-        say_number(doubled(m, e - 1075));
+        say_large(m, e - 1075);
         return;
     }
-    if e >= 1015 {
-        say_ratio(m, 1075 - e);
-        return;
-    }
-    say_product(1, m, 1075 - e);
+    say_small(m, 1075 - e);
 }
 
 // An infinity or a NaN, by its fraction.

@@ -1,8 +1,7 @@
 // What is written: texts with numbers in them, floats as decimals, values.
 mod decimals;
 
-use crate::decimals::say_float;
-use text::fields::word_at;
+pub use crate::decimals::say_float;
 ghost use Prim.Native.Nat.{_≤_};
 ghost use lib.ListN.{length};
 
@@ -55,6 +54,34 @@ fn rest(n: Numbers) -> Numbers {
     }
 }
 
+// A part of a table of texts.
+struct Part {
+    from: usize,
+    to: usize,
+}
+
+// The n-th text of a table whose texts stand apart by one byte, counted from 0; an empty part at the end where it has fewer.
+fn text_at(table: &[u8], by: u8, n: u64) -> Part
+    ensures { λ r. ⌜ (r .from) ≤ (r .to) ⌝ }
+    ensures { λ r. ⌜ (r .to) ≤ length (now (table .entry)) ⌝ }
+{
+    let mut at = 0;
+    let mut left = n;
+    while left > 0 {
+        let e = bytes::scan::find(table, at, table.len(), by);
+        if e == table.len() {
+            return Part { from: e, to: e };
+        }
+        at = e + 1;
+        left -= 1;
+    }
+    Part {
+        from: at,
+        to: bytes::scan::find(table, at, table.len(), by),
+    }
+}
+
+// A write that fails is not told: the command checks what arrives.
 pub fn say(words: &[u8]) {
     let _ = io::write_all(1, words);
 }
@@ -132,7 +159,7 @@ fn say_target(at: u64, p: u64) {
 
 // The n-th word of a table of names, which stand apart by one byte.
 fn say_word(table: &[u8], by: u8, n: u64) {
-    let w = word_at(table, by, n);
+    let w = text_at(table, by, n);
     let from = w.from;
     let to = w.to;
     say(&table[from..to]);
@@ -192,7 +219,7 @@ pub fn tell(t: &[u8], n: Numbers) {
 
 // The n-th line of a table of texts.
 pub fn tell_line(table: &[u8], n: u64, numbers: Numbers) {
-    let w = word_at(table, 10, n);
+    let w = text_at(table, 10, n);
     let from = w.from;
     let to = w.to;
     tell(&table[from..to], numbers);

@@ -1,125 +1,207 @@
-// What was read of an expression so far.
-use crate::BUDGET;
-use crate::DEST;
-use crate::LOCALS;
-use crate::MANY_VALUES;
-use crate::NODE;
-use crate::PARAMS;
-use crate::Said;
-use crate::TOO_LARGE;
-use crate::TROUBLE;
-use crate::VALUE;
+// What the lines of an expression have said so far.
+use crate::Line;
 
 pub struct Head {
-    // The line that is read, from 1.
+    // The number of the line that is read next, from 1.
     pub line: u64,
-    // What is wrong with the text, and on which line; 0 where nothing is.
-    pub trouble: u64,
-    pub trouble_line: u64,
-    // How many nodes and how many values of registers there are.
+    // How many nodes and how many values of registers there are, and the line of the last node.
     pub nodes: usize,
     pub values: usize,
+    pub node_line: u64,
     pub params: u64,
-    // How many locals there are, where a line says so; else as many as make up for the values.
     pub locals: u64,
-    pub locals_said: bool,
     // 0 for none, r + 1 for the register r.
     pub dest: u64,
     pub budget: u64,
-    // Whether there is anything to show.
+    // The lines that said these, and the title's; 0 where none has.
+    pub params_line: u64,
+    pub locals_line: u64,
+    pub dest_line: u64,
+    pub budget_line: u64,
+    pub title_line: u64,
+    // Whether a line says anything, and whether one cannot be read.
     pub some: bool,
+    pub bad: bool,
 }
 
 // Enough steps for the words of any expression: they jump forward only, and there is no room for more words.
-pub const STEPS: u64 = 16384;
+const STEPS: u64 = 16384;
+
+const MAX: u64 = 18446744073709551615;
 
 pub fn fresh(line: u64) -> Head {
     Head {
         line: line,
-        trouble: 0,
-        trouble_line: 0,
         nodes: 0,
         values: 0,
+        node_line: 0,
         params: 0,
         locals: 0,
-        locals_said: false,
         dest: 0,
         budget: STEPS,
+        params_line: 0,
+        locals_line: 0,
+        dest_line: 0,
+        budget_line: 0,
+        title_line: 0,
         some: false,
+        bad: false,
     }
 }
 
-// A text that cannot be read.
-fn amiss(h: Head, what: u64) -> Head {
-    let mut t = h;
-    t.trouble = what;
-    t.trouble_line = h.line;
-    t
+// What a line that can be read does not go with.
+pub enum Clash {
+    No,
+    // What was said before, and on which line.
+    Twice(u64),
+    // There are as many values as registers.
+    ManyValues,
+    // No destination has so large a number.
+    NoRegister,
+}
+
+fn once(line: u64) -> Clash {
+    if line == 0 {
+        return Clash::No;
+    }
+    Clash::Twice(line)
+}
+
+fn dest_clash(h: Head, n: u64) -> Clash {
+    if n == MAX {
+        return Clash::NoRegister;
+    }
+    once(h.dest_line)
+}
+
+fn value_clash(h: Head) -> Clash {
+    if faults::MAX_REGISTERS <= h.values as u64 {
+        return Clash::ManyValues;
+    }
+    Clash::No
+}
+
+pub fn clash_of(h: Head, l: Line) -> Clash {
+    match l {
+        Line::Title => once(h.title_line),
+        Line::Params(_) => once(h.params_line),
+        Line::Locals(_) => once(h.locals_line),
+        Line::Dest(n) => dest_clash(h, n),
+        Line::Budget(_) => once(h.budget_line),
+        Line::Value(_, _) => value_clash(h),
+        _ => Clash::No,
+    }
 }
 
 // A table may have one node too many, which the check then refuses.
-fn node(h: Head) -> Head {
+fn with_node(h: Head) -> Head {
     let mut t = h;
+    t.node_line = h.line;
     if h.nodes <= faults::MAX_NODES {
         t.nodes = h.nodes + 1;
     }
     t
 }
 
-fn value(h: Head) -> Head {
-    if faults::MAX_REGISTERS <= h.values as u64 {
-        return amiss(h, MANY_VALUES);
-    }
+fn with_value(h: Head) -> Head {
     let mut t = h;
-    t.values = h.values + 1;
+    if h.values < 65535 {
+        t.values = h.values + 1;
+    }
     t
 }
 
-fn dest(h: Head, n: u64) -> Head {
-    if n == 18446744073709551615 {
-        return amiss(h, TOO_LARGE);
-    }
+fn with_dest(h: Head, n: u64) -> Head {
     let mut t = h;
-    t.dest = n + 1;
+    t.dest_line = h.line;
+    if n < MAX {
+        t.dest = n + 1;
+    }
     t
 }
 
-fn locals(h: Head, n: u64) -> Head {
+fn with_params(h: Head, n: u64) -> Head {
+    let mut t = h;
+    t.params = n;
+    t.params_line = h.line;
+    t
+}
+
+fn with_locals(h: Head, n: u64) -> Head {
     let mut t = h;
     t.locals = n;
-    t.locals_said = true;
+    t.locals_line = h.line;
     t
 }
 
-// What a line adds. Nothing is read of an expression after its first trouble.
-fn with(h: Head, s: Said) -> Head {
-    let what = s.what;
-    let n = s.payload;
+fn with_budget(h: Head, n: u64) -> Head {
     let mut t = h;
-    t.some = true;
-    match what {
-        NODE => node(t),
-        VALUE => value(t),
-        DEST => dest(t, n),
-        LOCALS => locals(t, n),
-        PARAMS => {
-            t.params = n;
-            t
-        }
-        BUDGET => {
-            t.budget = n;
-            t
-        }
-        TROUBLE => amiss(t, n),
+    t.budget = n;
+    t.budget_line = h.line;
+    t
+}
+
+fn with_title(h: Head) -> Head {
+    let mut t = h;
+    t.title_line = h.line;
+    t
+}
+
+fn with(h: Head, l: Line) -> Head {
+    match l {
+        Line::Node(_, _) => with_node(h),
+        Line::Given(_, _, _, _) => with_node(h),
+        Line::Value(_, _) => with_value(h),
+        Line::Dest(n) => with_dest(h, n),
+        Line::Params(n) => with_params(h, n),
+        Line::Locals(n) => with_locals(h, n),
+        Line::Budget(n) => with_budget(h, n),
+        Line::Title => with_title(h),
         _ => h,
     }
 }
 
-// The head after a line.
-pub fn after(h: Head, s: Said) -> Head {
-    let mut t = if h.trouble == 0 { with(h, s) } else { h };
-    if h.line < 18446744073709551615 {
+// Whether a line says something of an expression.
+fn says(l: Line) -> bool {
+    match l {
+        Line::Nothing => false,
+        Line::End => false,
+        _ => true,
+    }
+}
+
+// The head after a line; `bad` where the line is at fault.
+pub fn after(h: Head, l: Line, bad: bool) -> Head {
+    let mut t = with(h, l);
+    if says(l) {
+        t.some = true;
+    }
+    if bad {
+        t.bad = true;
+    }
+    if h.line < MAX {
         t.line = h.line + 1;
     }
     t
+}
+
+// How many locals there are: as many as a line says; else as many as make up for the values.
+pub fn locals_of(h: Head) -> u64 {
+    if h.locals_line != 0 {
+        return h.locals;
+    }
+    let n = h.values as u64;
+    if n < h.params {
+        return 0;
+    }
+    n - h.params
+}
+
+// Parameters and locals, where 64 bits hold their sum; a layout that they do not hold is refused before any node.
+pub fn base_of(h: Head) -> u64 {
+    let n = locals_of(h);
+    if n <= MAX - h.params {
+        return h.params + n;
+    }
+    MAX
 }

@@ -1,267 +1,331 @@
-// The text of an expression: what a line says, and what was read so far.
+// The text of an expression: what a line says; what its lines have said so far (`head`); its nodes and values (`gather`); which node a refusal is
+// about (`why`).
+pub mod gather;
 pub mod head;
-mod real;
+pub mod why;
 
-use crate::real::float;
-use text::fields::NO_WORD;
-use text::fields::field;
-use text::fields::word_no;
+use text::decimal::Real;
+use text::decimal::float;
+use text::fields::Place;
+use text::fields::count;
+use text::fields::nth;
+use text::fields::place_of;
 use text::numeral::Read;
 use text::numeral::int;
 use text::numeral::unsigned;
+ghost use mathlib.Core.Path.{_≡_};
+ghost use mathlib.Core.List.{[], map};
+ghost use Prim.Native.Nat.{_<_, _≤_};
+ghost use lib.ListN.{length, getD};
+ghost use Rattle.text.specs.Fields.{bytes, fieldsOf, placeOf};
+ghost use Rattle.reader.specs.Line.{firstWords, valueWords, readOf, realOf, payloadOf, numberOf, lastOf};
+ghost use Rattle.reader.specs.Line.{bareOf, plainOf, givenOf, nodeOf, settingOf, pairOf, atomOf, valueOf, endOf};
+ghost use Rattle.reader.specs.Line.{wordOf, kindOf, firstOf, fieldsLine, lineOf};
+
+// Why a line cannot be read.
+pub enum Trouble {
+    // No kind of node, and no other word that a line can begin with.
+    NoSuchWord,
+    NoNumber,
+    // 64 bits do not hold it.
+    TooLarge,
+    // More digits after the point than are read.
+    TooLong,
+    // A decimal between two floats; the pattern of the one nearer to zero.
+    Between(u64),
+    Missing,
+    // More fields than the line can have.
+    TooMuch,
+    // A first without a depth.
+    HalfGiven,
+    NoValue,
+}
+
+// A number that a line has; or why not, and which field is at fault.
+enum Number {
+    Is(u64),
+    Wrong(Trouble, usize),
+}
 
 // What a line says.
-pub struct Said {
-    // One of the numbers below.
-    pub what: usize,
-    // Of a node or a value; the payload is also the number of a setting or of a trouble. A title stands from its payload up to its first.
-    pub kind: u64,
-    pub payload: u64,
-    // Whether first and depth of a node are given, 1 or 0, and both.
-    pub given: u64,
-    pub first: u64,
-    pub depth: u64,
+pub enum Line {
+    Nothing,
+    // The end of an expression.
+    End,
+    // A title: all that follows on its line.
+    Title,
+    // A node by kind and payload; by kind, payload, first and depth.
+    Node(u64, u64),
+    Given(u64, u64, u64, u64),
+    Params(u64),
+    Locals(u64),
+    Dest(u64),
+    Budget(u64),
+    // The value of the next register: the kind byte and the payload of a pair.
+    Value(u8, u64),
+    // Why it cannot be read, and which field is at fault, counted from 0.
+    Wrong(Trouble, usize),
 }
 
-// A node; then, by their places among the words of `first_word`: the settings, the value of a register, a title, and the end of an expression.
-pub const NODE: usize = 26;
-
-pub const PARAMS: usize = 27;
-
-pub const LOCALS: usize = 28;
-
-pub const DEST: usize = 29;
-
-pub const BUDGET: usize = 30;
-
-pub const VALUE: usize = 31;
-
-pub const TITLE: usize = 32;
-
-pub const END: usize = 33;
-
-pub const NOTHING: usize = 34;
-
-pub const TROUBLE: usize = 35;
-
-// What can be wrong with a text.
-pub const UNKNOWN_WORD: u64 = 1;
-
-pub const NO_NUMBER: u64 = 2;
-
-pub const TOO_LARGE: u64 = 3;
-
-pub const INEXACT: u64 = 4;
-
-pub const MISSING: u64 = 5;
-
-pub const TOO_MUCH: u64 = 6;
-
-pub const HALF_GIVEN: u64 = 7;
-
-pub const NO_VALUE: u64 = 8;
-
-pub const MANY_VALUES: u64 = 9;
-
-// A number of a line, or what is wrong with it.
-enum Got {
-    Is(u64),
-    Not(u64),
-}
-
-fn got_read(r: Read) -> Got {
+fn of_read(n: usize, r: Read) -> Number
+    ensures { λ q. ⌜ q ≡ readOf n r ⌝ }
+{
     match r {
-        Read::Is(n) => Got::Is(n),
-        Read::NoNumber => Got::Not(NO_NUMBER),
-        Read::TooLarge => Got::Not(TOO_LARGE),
+        Read::Is(x) => Number::Is(x),
+        Read::NoNumber => Number::Wrong(Trouble::NoNumber, n),
+        Read::TooLarge => Number::Wrong(Trouble::TooLarge, n),
+    }
+}
+
+fn of_real(n: usize, r: Real) -> Number
+    ensures { λ q. ⌜ q ≡ realOf n r ⌝ }
+{
+    match r {
+        Real::Is(p) => Number::Is(p),
+        Real::Between(p) => Number::Wrong(Trouble::Between(p), n),
+        Real::NoNumber => Number::Wrong(Trouble::NoNumber, n),
+        Real::TooLarge => Number::Wrong(Trouble::TooLarge, n),
+        Real::TooLong => Number::Wrong(Trouble::TooLong, n),
     }
 }
 
 // The payload of a kind, as text.
-fn payload_of(kind: u64, s: &[u8]) -> Got {
-    if s.len() == 0 {
-        return Got::Not(MISSING);
-    }
+fn payload(n: usize, kind: u64, s: &[u8]) -> Number
+    ensures { λ r. ⌜ r ≡ payloadOf n kind (now (s .entry)) ⌝ }
+{
     if kind == table::INT {
-        return got_read(int(s));
+        return of_read(n, int(s));
     }
     if kind == table::FLOAT {
-        return float(s);
+        return of_real(n, float(s));
     }
-    got_read(unsigned(s))
+    of_read(n, unsigned(s))
 }
 
-// The field from `at` on, as a payload.
-fn payload_at(kind: u64, s: &[u8], at: usize) -> Got {
-    let w = field(s, at);
+// Field n as the payload of a kind.
+fn number_in(kind: u64, n: usize, s: &[u8]) -> Number
+    ensures { λ r. ⌜ r ≡ numberOf kind n (fieldsOf (now (s .entry))) ⌝ }
+{
+    if count(s) <= n {
+        return Number::Wrong(Trouble::Missing, n);
+    }
+    let w = nth(s, n);
     let from = w.from;
     let to = w.to;
-    payload_of(kind, &s[from..to])
-}
-
-// Where the field from `at` on ends.
-fn end_at(s: &[u8], at: usize) -> usize {
-    let w = field(s, at);
-    w.to
-}
-
-// Whether no field follows.
-fn is_over(s: &[u8], at: usize) -> bool {
-    let w = field(s, at);
-    w.from == w.to
+    payload(n, kind, &s[from..to])
 }
 
 // The same of the line's last field.
-fn last_payload(kind: u64, s: &[u8], at: usize) -> Got {
-    if is_over(s, end_at(s, at)) {
-        return payload_at(kind, s, at);
+fn last_number(kind: u64, n: usize, s: &[u8]) -> Number
+    requires { ⌜ n < 1000 ⌝ }
+    ensures { λ r. ⌜ r ≡ lastOf kind n (fieldsOf (now (s .entry))) ⌝ }
+{
+    if n + 1 < count(s) {
+        return Number::Wrong(Trouble::TooMuch, n + 1);
     }
-    Got::Not(TOO_MUCH)
+    number_in(kind, n, s)
 }
 
-fn plain(what: usize, kind: u64, payload: u64) -> Said {
-    Said {
-        what: what,
-        kind: kind,
-        payload: payload,
-        given: 0,
-        first: 0,
-        depth: 0,
-    }
-}
-
-fn trouble(t: u64) -> Said {
-    plain(TROUBLE, 0, t)
-}
-
-// What a line says whose number was got.
-fn said_got(what: usize, kind: u64, g: Got) -> Said {
-    match g {
-        Got::Is(n) => plain(what, kind, n),
-        Got::Not(t) => trouble(t),
-    }
-}
-
-// A node with its first, whose depth follows from `at` on.
-fn given(s: &[u8], at: usize, kind: u64, payload: u64, first: u64) -> Said {
-    if is_over(s, at) {
-        return trouble(HALF_GIVEN);
-    }
-    match last_payload(table::REF, s, at) {
-        Got::Is(depth) => Said {
-            what: NODE,
-            kind: kind,
-            payload: payload,
-            given: 1,
-            first: first,
-            depth: depth,
-        },
-        Got::Not(t) => trouble(t),
-    }
-}
-
-// A node with its payload, whose first and depth follow from `at` on, or are left out.
-fn node_with(s: &[u8], at: usize, kind: u64, payload: u64) -> Said {
-    if is_over(s, at) {
-        return plain(NODE, kind, payload);
-    }
-    match payload_at(table::REF, s, at) {
-        Got::Is(first) => given(s, end_at(s, at), kind, payload, first),
-        Got::Not(_) => trouble(NO_NUMBER),
-    }
-}
-
-// Whether a kind has a payload.
-fn has_payload(kind: u64) -> bool {
+// A node that has its kind alone.
+fn bare(kind: u64) -> Line
+    ensures { λ r. ⌜ r ≡ bareOf kind ⌝ }
+{
     if kind < table::INT {
-        return false;
+        return Line::Node(kind, 0);
     }
-    kind <= table::REF
+    if kind <= table::REF {
+        return Line::Wrong(Trouble::Missing, 1);
+    }
+    Line::Node(kind, 0)
 }
 
-// A node of a kind, whose payload follows from `at` on; it is 0 where it is left out, but not for Int, Float and Ref.
-fn node(s: &[u8], at: usize, kind: u64) -> Said {
-    if !has_payload(kind) {
-        if is_over(s, at) {
-            return plain(NODE, kind, 0);
-        }
-    }
-    match payload_at(kind, s, at) {
-        Got::Is(p) => node_with(s, end_at(s, at), kind, p),
-        Got::Not(t) => trouble(t),
+fn plain(kind: u64, payload: Number) -> Line
+    ensures { λ r. ⌜ r ≡ plainOf kind payload ⌝ }
+{
+    match payload {
+        Number::Is(p) => Line::Node(kind, p),
+        Number::Wrong(t, n) => Line::Wrong(t, n),
     }
 }
 
-// The value of the next register, as the kind byte and the payload of a pair.
-fn value(s: &[u8], at: usize) -> Said {
-    let w = field(s, at);
+fn given(kind: u64, payload: Number, first: Number, depth: Number) -> Line
+    ensures { λ r. ⌜ r ≡ givenOf kind payload first depth ⌝ }
+{
+    let Number::Is(p) = payload else {
+        return plain(kind, payload);
+    };
+    let Number::Is(f) = first else {
+        return plain(kind, first);
+    };
+    let Number::Is(d) = depth else {
+        return plain(kind, depth);
+    };
+    Line::Given(kind, p, f, d)
+}
+
+// A node by its fields, of which the first is its kind.
+fn node(kind: u64, s: &[u8]) -> Line
+    ensures { λ r. ⌜ r ≡ nodeOf kind (fieldsOf (now (s .entry))) ⌝ }
+{
+    match count(s) {
+        1 => bare(kind),
+        2 => plain(kind, number_in(kind, 1, s)),
+        3 => Line::Wrong(Trouble::HalfGiven, 2),
+        4 => given(
+            kind,
+            number_in(kind, 1, s),
+            number_in(table::REF, 2, s),
+            number_in(table::REF, 3, s),
+        ),
+        _ => Line::Wrong(Trouble::TooMuch, 4),
+    }
+}
+
+fn setting(word: usize, number: Number) -> Line
+    ensures { λ r. ⌜ r ≡ settingOf word number ⌝ }
+{
+    let Number::Is(x) = number else {
+        return plain(0, number);
+    };
+    match word {
+        27 => Line::Params(x),
+        28 => Line::Locals(x),
+        29 => Line::Dest(x),
+        _ => Line::Budget(x),
+    }
+}
+
+fn pair(kind: u8, payload: Number) -> Line
+    ensures { λ r. ⌜ r ≡ pairOf kind payload ⌝ }
+{
+    match payload {
+        Number::Is(p) => Line::Value(kind, p),
+        Number::Wrong(t, n) => Line::Wrong(t, n),
+    }
+}
+
+// A value that has no number.
+fn atom(kind: u8, payload: u64, s: &[u8]) -> Line
+    ensures { λ r. ⌜ r ≡ atomOf kind payload (fieldsOf (now (s .entry))) ⌝ }
+{
+    if 2 < count(s) {
+        return Line::Wrong(Trouble::TooMuch, 2);
+    }
+    Line::Value(kind, payload)
+}
+
+fn value(place: Place, s: &[u8]) -> Line
+    ensures { λ r. ⌜ r ≡ valueOf place (fieldsOf (now (s .entry))) ⌝ }
+{
+    match place {
+        Place::At(n) => match n {
+            0 => atom(0, 0, s),
+            1 => atom(1, 1, s),
+            2 => atom(1, 0, s),
+            3 => pair(2, last_number(table::INT, 2, s)),
+            _ => pair(3, last_number(table::FLOAT, 2, s)),
+        },
+        Place::Nowhere => Line::Wrong(Trouble::NoValue, 1),
+    }
+}
+
+// The kind of value that a line's second field names.
+fn value_place(s: &[u8]) -> Place
+    ensures { λ r. ⌜ r ≡ placeOf (getD (fieldsOf (now (s .entry))) 1 []) (map bytes valueWords) ⌝ }
+{
+    let w = nth(s, 1);
     let from = w.from;
     let to = w.to;
-    match word_no(b"nil true false int float", &s[from..to]) {
-        0 => plain(VALUE, 0, 0),
-        1 => plain(VALUE, 1, 1),
-        2 => plain(VALUE, 1, 0),
-        3 => said_got(VALUE, 2, last_payload(table::INT, s, to)),
-        4 => said_got(VALUE, 3, last_payload(table::FLOAT, s, to)),
-        _ => trouble(NO_VALUE),
-    }
+    place_of(&s[from..to], b"nil true false int float")
 }
 
-// A node by the number of its kind.
-fn numbered(s: &[u8], at: usize, r: Read) -> Said {
+fn end(s: &[u8]) -> Line
+    ensures { λ r. ⌜ r ≡ endOf (fieldsOf (now (s .entry))) ⌝ }
+{
+    if 1 < count(s) {
+        return Line::Wrong(Trouble::TooMuch, 1);
+    }
+    Line::End
+}
+
+// A line by the place of its first word.
+fn by_word(k: usize, s: &[u8]) -> Line
+    ensures { λ r. ⌜ r ≡ wordOf k (fieldsOf (now (s .entry))) ⌝ }
+{
+    if k < 27 {
+        return node(k as u64, s);
+    }
+    if k < 31 {
+        return setting(k, last_number(table::REF, 1, s));
+    }
+    if k == 31 {
+        return value(value_place(s), s);
+    }
+    if k == 32 {
+        return Line::Title;
+    }
+    end(s)
+}
+
+// A line by the number of a kind.
+fn by_number(r: Read, s: &[u8]) -> Line
+    ensures { λ q. ⌜ q ≡ kindOf r (fieldsOf (now (s .entry))) ⌝ }
+{
     match r {
-        Read::Is(n) => node(s, at, n),
-        Read::NoNumber => trouble(UNKNOWN_WORD),
-        Read::TooLarge => trouble(TOO_LARGE),
+        Read::Is(k) => node(k, s),
+        Read::NoNumber => Line::Wrong(Trouble::NoSuchWord, 0),
+        Read::TooLarge => Line::Wrong(Trouble::TooLarge, 0),
     }
 }
 
-// The words that a line can begin with: the 27 kinds by their numbers, then the settings, a value, a title, and the end.
-fn first_word(s: &[u8]) -> usize {
-    word_no(
-        b"nil true false int float ref minus not bit_and bit_or bit_xor lshift rshift add sub mul div mod eq ne lt le gt ge and or ternary params locals dest budget local title ---",
-        s,
+// The place of a word among those that a line can begin with.
+fn first_place(w: &[u8]) -> Place
+    ensures { λ r. ⌜ r ≡ placeOf (now (w .entry)) (map bytes firstWords) ⌝ }
+{
+    place_of(
+        w,
+        b"nil true false int float ref minus not bit_and bit_or bit_xor lshift rshift add sub mul div mod \
+          eq ne lt le gt ge and or ternary params locals dest budget local title ---",
     )
 }
 
-// A line whose first word ends at `to`.
-fn read_from(s: &[u8], k: usize, to: usize) -> Said {
-    if k <= NODE {
-        return node(s, to, k as u64);
-    }
-    if k < VALUE {
-        return said_got(k, 0, last_payload(table::REF, s, to));
-    }
-    if k == VALUE {
-        return value(s, to);
-    }
-    Said {
-        what: k,
-        kind: 0,
-        payload: to as u64,
-        given: 0,
-        first: s.len() as u64,
-        depth: 0,
+fn by_place(place: Place, w: &[u8], s: &[u8]) -> Line
+    requires { ⌜ now w ≡ getD (fieldsOf (now s)) 0 [] ⌝ }
+    ensures { λ r. ⌜ r ≡ firstOf place (fieldsOf (now (s .entry))) ⌝ }
+{
+    match place {
+        Place::At(k) => by_word(k, s),
+        Place::Nowhere => by_number(unsigned(w), s),
     }
 }
 
 // A line without its comment.
-fn read_bare(s: &[u8]) -> Said {
-    let w = field(s, 0);
-    let from = w.from;
-    let to = w.to;
-    if from == to {
-        return plain(NOTHING, 0, 0);
+fn read_bare(s: &[u8]) -> Line
+    ensures { λ r. ⌜ r ≡ fieldsLine (fieldsOf (now (s .entry))) ⌝ }
+{
+    if count(s) == 0 {
+        return Line::Nothing;
     }
-    let k = first_word(&s[from..to]);
-    if k == NO_WORD {
-        return numbered(s, to, unsigned(&s[from..to]));
-    }
-    read_from(s, k, to)
+    let f = nth(s, 0);
+    let from = f.from;
+    let to = f.to;
+    let w = &s[from..to];
+    by_place(first_place(w), w, s)
 }
 
 // A line.
-pub fn read(s: &[u8]) -> Said {
+pub fn read(s: &[u8]) -> Line
+    ensures { λ r. ⌜ r ≡ lineOf (now (s .entry)) ⌝ }
+{
     let e = bytes::scan::find(s, 0, s.len(), b'#');
     read_bare(&s[..e])
+}
+
+// Where the text of a title begins: after the first word of its line. A # in a title is no comment.
+pub fn title_from(s: &[u8]) -> usize
+    ensures { λ r. ⌜ r ≤ length (now (s .entry)) ⌝ }
+{
+    let e = bytes::scan::find(s, 0, s.len(), b'#');
+    let w = nth(&s[..e], 0);
+    w.to
 }

@@ -1,2 +1,4 @@
 -- The laws that the proofs of `decimal` cite.
-pub mod Factors
+pub mod Digits
+pub mod Settling
+pub mod Texts

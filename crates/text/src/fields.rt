@@ -1,31 +1,39 @@
-// Parts of a line of text: its fields, and the words of a table of names.
-ghost use Prim.Native.Nat.{_≤_};
-ghost use lib.ListN.{length};
+// The fields of a line, and the words of a table of names.
+ghost use mathlib.Core.Path.{_≡_};
+ghost use mathlib.Core.List.{[]};
+ghost use Prim.Native.Nat.{_+_, _-_, _≤_};
+ghost use lib.ListN.{length, getD, take, drop};
+ghost use Rattle.text.specs.Fields.{isBlank, fieldsOf, placeOf};
+ghost use Rattle.text.specs.Scan.{lead, onward};
 
-// A part: from a position up to another.
+// A field by where it begins and ends; the two are one place where there is none.
 pub struct Part {
     pub from: usize,
     pub to: usize,
 }
 
-// Of no word of a table.
-pub const NO_WORD: usize = 1000;
+// The number of a word in a table, counted from 0.
+pub enum Place {
+    At(usize),
+    Nowhere,
+}
 
-// A space, a tab or a carriage return.
-fn is_blank(b: u8) -> bool {
-    if b == 32 {
+fn is_blank(b: u8) -> bool
+    ensures { λ r. ⌜ r ≡ isBlank b ⌝ }
+{
+    if b == b' ' {
         return true;
     }
-    if b == 9 {
+    if b == b'\t' {
         return true;
     }
-    b == 13
+    b == b'\r'
 }
 
 // The first position from `at` on whose byte is blank, or is not, as asked; the end where there is none.
 fn seek(s: &[u8], at: usize, blank: bool) -> usize
     requires { ⌜ at ≤ length (now s) ⌝ }
-    ensures { λ r. ⌜ at ≤ r ⌝ }
+    ensures { λ r. ⌜ r ≡ at + lead blank (drop at (now (s .entry))) ⌝ }
     ensures { λ r. ⌜ r ≤ length (now (s .entry)) ⌝ }
 {
     let mut i = at;
@@ -38,60 +46,68 @@ fn seek(s: &[u8], at: usize, blank: bool) -> usize
     i
 }
 
-// The next field from `at` on: bytes that are not blank; an empty part at the end where there is none.
-pub fn field(s: &[u8], at: usize) -> Part
-    ensures { λ r. ⌜ (r.from) ≤ (r.to) ⌝ }
-    ensures { λ r. ⌜ (r.to) ≤ length (now (s .entry)) ⌝ }
+// The first field from `at` on.
+fn next(s: &[u8], at: usize) -> Part
+    requires { ⌜ at ≤ length (now s) ⌝ }
+    ensures { λ r. ⌜ fieldsOf (drop at (now (s .entry))) ≡ onward (now (s .entry)) (r .from) (r .to) ⌝ }
+    ensures { λ r. ⌜ (at ≤ r .from) × (r .from ≤ r .to) × (r .to ≤ length (now (s .entry))) ⌝ }
 {
-    if s.len() < at {
-        return Part {
-            from: s.len(),
-            to: s.len(),
-        };
-    }
     let from = seek(s, at, false);
     let to = seek(s, from, true);
     Part { from: from, to: to }
 }
 
-// Which word of the table s is, counted from 0. The words of a table stand between single spaces.
-pub fn word_no(table: &[u8], s: &[u8]) -> usize {
-    let mut at = 0;
-    let mut n = 0;
-    while at < table.len() {
-        let e = bytes::scan::find(table, at, table.len(), 32);
-        if check::same(&table[at..e], s) {
-            return n;
-        }
-        if e == table.len() {
-            return NO_WORD;
-        }
-        at = e + 1;
-        n += 1;
-    }
-    NO_WORD
-}
-
-// The n-th word of a table whose words stand apart by one byte, counted from 0; an empty part at the end where it has fewer.
-pub fn word_at(table: &[u8], by: u8, n: u64) -> Part
-    ensures { λ r. ⌜ (r.from) ≤ (r.to) ⌝ }
-    ensures { λ r. ⌜ (r.to) ≤ length (now (table .entry)) ⌝ }
+// Field n of a line, counted from 0; an empty part where there are fewer.
+pub fn nth(s: &[u8], n: usize) -> Part
+    ensures { λ r. ⌜ take (r .to - r .from) (drop (r .from) (now (s .entry))) ≡ getD (fieldsOf (now (s .entry))) n [] ⌝ }
+    ensures { λ r. ⌜ (r .from ≤ r .to) × (r .to ≤ length (now (s .entry))) ⌝ }
 {
     let mut at = 0;
     let mut left = n;
     while left > 0 {
-        let e = bytes::scan::find(table, at, table.len(), by);
-        if e == table.len() {
-            return Part {
-                from: table.len(),
-                to: table.len(),
-            };
+        let w = next(s, at);
+        if w.from == w.to {
+            return w;
         }
-        at = e + 1;
+        at = w.to;
         left -= 1;
     }
-    Part {
-        from: at,
-        to: bytes::scan::find(table, at, table.len(), by),
+    next(s, at)
+}
+
+// How many fields a line has.
+pub fn count(s: &[u8]) -> usize
+    ensures { λ r. ⌜ r ≡ length (fieldsOf (now (s .entry))) ⌝ }
+{
+    let mut at = 0;
+    let mut n = 0;
+    loop {
+        let w = next(s, at);
+        if w.from == w.to {
+            return n;
+        }
+        at = w.to;
+        n += 1;
+    }
+}
+
+// Which word of a table s is. The words of a table are the fields of one text.
+pub fn place_of(s: &[u8], table: &[u8]) -> Place
+    ensures { λ r. ⌜ r ≡ placeOf (now (s .entry)) (fieldsOf (now (table .entry))) ⌝ }
+{
+    let mut at = 0;
+    let mut n = 0;
+    loop {
+        let w = next(table, at);
+        let from = w.from;
+        let to = w.to;
+        if from == to {
+            return Place::Nowhere;
+        }
+        if check::same(&table[from..to], s) {
+            return Place::At(n);
+        }
+        at = to;
+        n += 1;
     }
 }

@@ -76,15 +76,8 @@ fn digits_after(base: u64, n: u64, s: &[u8]) -> Read
     Read::Is(so_far)
 }
 
-// n and the decimal digits of s after it.
-pub fn decimals_after(n: u64, s: &[u8]) -> Read
-    ensures { λ r. ⌜ r ≡ readOn 10 (Is n) (now (s .entry)) ⌝ }
-{
-    digits_after(10, n, s)
-}
-
 // One digit or more.
-fn digits(base: u64, s: &[u8]) -> Read
+pub(crate) fn digits(base: u64, s: &[u8]) -> Read
     requires { ⌜ 10 ≤ base ⌝ }
     requires { ⌜ base ≤ 16 ⌝ }
     ensures { λ r. ⌜ r ≡ natOf base (now (s .entry)) ⌝ }
@@ -96,7 +89,7 @@ fn digits(base: u64, s: &[u8]) -> Read
 }
 
 // One digit or more from a position on.
-fn digits_from(base: u64, from: usize, s: &[u8]) -> Read
+pub(crate) fn digits_from(base: u64, from: usize, s: &[u8]) -> Read
     requires { ⌜ 10 ≤ base ⌝ }
     requires { ⌜ base ≤ 16 ⌝ }
     ensures { λ r. ⌜ r ≡ natOf base (drop from (now (s .entry))) ⌝ }
@@ -108,7 +101,7 @@ fn digits_from(base: u64, from: usize, s: &[u8]) -> Read
 }
 
 // Whether s starts with 0x.
-pub fn is_hex(s: &[u8]) -> bool
+pub(crate) fn is_hex(s: &[u8]) -> bool
     ensures { λ r. ⌜ r ≡ isHex (now (s .entry)) ⌝ }
 {
     if s.len() < 2 {

@@ -1,14 +1,14 @@
--- `main` is safe and ends. Assumes nothing.
+-- `main` is safe and ends: it goes through the arguments.
 use Prim.Native.Nat.{_-_}
 use borrow.Author.Needs.{needs}
 use Rattle.cli.proofs.main.Statement.{statement}
 use Rattle.cli.proofs.main.Tie as tie
 
 abbrev Inv-loop : tie.InvT-loop
-Inv-loop n i₀ i = Unit {0}
+Inv-loop n t₀ i₀ t i = Unit {0}
 
 abbrev μ-loop : tie.MeasureT-loop
-μ-loop n i₀ i = n - i
+μ-loop n t₀ i₀ t i = n - i
 
 pub main-spec : {M : Type 1} → statement M
 main-spec =
@@ -17,10 +17,12 @@ main-spec =
     Inv-loop
     μ-loop
     (λ c κs. search needs)
-    (λ c κs. search needs)
     (λ c. search needs)
     (λ c κs. search needs)
     (λ c. search needs)
+    (λ c κs. search needs)
     (λ c. search needs)
     (λ c. search needs)
+    (λ c. search needs)
+    (λ c κs. search needs)
     (λ c. search needs))

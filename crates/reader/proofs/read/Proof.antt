@@ -1,6 +1,5 @@
--- `reader::read` is safe and ends. Assumes nothing.
-use lib.Seq.{length-take-le}
-use borrow.Author.Needs.{needs}
+-- `read` meets its contract: each return is a law of what the line's fields say.
+use Rattle.reader.proofs.Lines.{lines}
 use Rattle.reader.proofs.read.Statement.{statement}
 use Rattle.reader.proofs.read.Tie as tie
 
@@ -8,7 +7,7 @@ pub read-spec : {M : Type 1} → statement M
 read-spec =
     tie.close
     (tie.spec
-    (λ c κs. search (length-take-le, needs))
-    (λ c. search (length-take-le, needs))
-    (λ c κs. search (length-take-le, needs))
-    (λ c. search (length-take-le, needs)))
+    (λ c κs. search lines)
+    (λ c. search lines)
+    (λ c κs. search lines)
+    (λ c. search lines))

@@ -1,4 +1,4 @@
--- `list::list_words` is safe and ends. Assumes nothing.
+-- `list::list_words` is safe and ends.
 use Prim.Native.Nat.{_≤_, _-_}
 use lib.ListN.{length}
 use borrow.Author.Needs.{needs}

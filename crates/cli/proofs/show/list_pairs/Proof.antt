@@ -1,4 +1,4 @@
--- `show::list_pairs` is safe and ends. Assumes nothing.
+-- `show::list_pairs` is safe and ends.
 use Prim.Native.Nat.{_≤_, _-_}
 use lib.ListN.{length}
 use borrow.Author.Needs.{needs}

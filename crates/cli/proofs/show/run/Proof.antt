@@ -1,4 +1,4 @@
--- `show::run` is safe and ends. Assumes nothing.
+-- `show::run` is safe and ends.
 use lib.Seq.{length-take-le}
 use borrow.Author.Needs.{needs}
 use Rattle.cli.proofs.show.run.Statement.{statement}
@@ -8,18 +8,12 @@ pub run-spec : {M : Type 1} → statement M
 run-spec =
     tie.close
     (tie.spec
-    (λ c κs. search (length-take-le, needs))
     (λ c. search (length-take-le, needs))
-    (λ c κs. search (length-take-le, needs))
-    (λ c κs. search (length-take-le, needs))
-    (λ c. search (length-take-le, needs))
-    (λ c κs. search (length-take-le, needs))
-    (λ c κs. search (length-take-le, needs))
     (λ c κs. search (length-take-le, needs))
     (λ c. search (length-take-le, needs))
     (λ c. search (length-take-le, needs))
-    (λ c. search (length-take-le, needs))
     (λ c κs. search (length-take-le, needs))
+    (λ c. search (length-take-le, needs))
     (λ c κs. search (length-take-le, needs))
     (λ c. search (length-take-le, needs))
     (λ c. search (length-take-le, needs))

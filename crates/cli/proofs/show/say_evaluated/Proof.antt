@@ -1,4 +1,4 @@
--- `show::say_evaluated` is safe and ends. Assumes nothing.
+-- `show::say_evaluated` is safe and ends.
 use lib.Seq.{length-take-le}
 use borrow.Author.Needs.{needs}
 use Rattle.cli.proofs.show.say_evaluated.Statement.{statement}

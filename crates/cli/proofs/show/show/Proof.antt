@@ -1,4 +1,4 @@
--- `show::show` is safe and ends. Assumes nothing.
+-- `show::show` is safe and ends.
 use lib.Seq.{length-take-le}
 use borrow.Author.Needs.{needs}
 use Rattle.cli.proofs.show.show.Statement.{statement}
@@ -11,7 +11,6 @@ show-spec =
     (λ c κs. search (length-take-le, needs))
     (λ c. search (length-take-le, needs))
     (λ c κs. search (length-take-le, needs))
-    (λ c. search (length-take-le, needs))
     (λ c κs. search (length-take-le, needs))
     (λ c. search (length-take-le, needs))
     (λ c. search (length-take-le, needs))

@@ -1,0 +1,2 @@
+-- The laws that the proofs of `fields` cite.
+pub mod Scanning
