@@ -6,7 +6,7 @@ use lib.Dec.{leb, ltb, eqb}
 use lib.ListN.{length, getD, take, drop}
 use Rattle.bytes.specs.Bytes.{indexOf}
 use Rattle.float.specs.Bits.{units, infinity, quiet}
-use Rattle.float.specs.Float.{rounded, signed}
+use Rattle.float.specs.Float.{rounded, withSignBit}
 use Rattle.text.specs.Fields.{bytes, placeOf}
 use Rattle.text.specs.Numeral.{natOf, isHex}
 use Rattle.text.specs.declared.decimal.Real.{Real}
@@ -33,7 +33,7 @@ valueOf (b ∷ s) = (b - 48) * 10 ^ length s + valueOf s
 -- num / den steps, and q, the pattern nearest to it: where that float is equal to it, the float; else it lies between two floats, of which the one nearer to zero is named.
 unfoldable pub settled : Bool → ℕ → ℕ → ℕ → Real
 settled neg num den q =
-    cond (eqb (units q * den) num) (Is (signed neg q)) (Between (signed neg (cond (ltb num (units q * den)) (q - 1) q)))
+    cond (eqb (units q * den) num) (Is (withSignBit neg q)) (Between (withSignBit neg (cond (ltb num (units q * den)) (q - 1) q)))
 
 unfoldable pub decimalOf : Bool → ℕ → ℕ → Real
 unfolding settled

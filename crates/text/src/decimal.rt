@@ -10,7 +10,7 @@ ghost use mathlib.Core.Bool.{true, cond};
 ghost use Prim.Native.Nat.{_+_, _*_, _^_, _<_, _≤_};
 ghost use lib.Dec.{eqb};
 ghost use lib.ListN.{length};
-ghost use Rattle.float.specs.Float.{signed};
+ghost use Rattle.float.specs.Float.{withSignBit};
 ghost use Rattle.text.specs.declared.decimal.Real.the-variants.{Is, Between};
 ghost use Rattle.text.specs.Decimal.{isDigit, allDigits, valueOf, decimalOf, partsOf, pointOf, plainOf, signedOf, patternOf, namedOf, floatOf};
 ghost use Rattle.text.specs.Doubling.{Doubled};
@@ -88,7 +88,7 @@ fn is_zero(f: &[u8]) -> bool
 
 fn with_sign(neg: bool, q: u64) -> u64
     requires { ⌜ q < 2 ^ 63 ⌝ }
-    ensures { λ r. ⌜ r ≡ signed neg q ⌝ }
+    ensures { λ r. ⌜ r ≡ withSignBit neg q ⌝ }
 {
     if neg {
         return 0x8000_0000_0000_0000 + q;
@@ -99,7 +99,7 @@ fn with_sign(neg: bool, q: u64) -> u64
 // The float of a pattern without a sign, or that the number lies between that float and the next.
 fn settle(neg: bool, q: u64, exact: bool) -> Real
     requires { ⌜ q < 2 ^ 63 ⌝ }
-    ensures { λ r. ⌜ r ≡ cond exact (Is (signed neg q)) (Between (signed neg q)) ⌝ }
+    ensures { λ r. ⌜ r ≡ cond exact (Is (withSignBit neg q)) (Between (withSignBit neg q)) ⌝ }
 {
     let p = with_sign(neg, q);
     if exact {

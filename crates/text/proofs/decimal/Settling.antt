@@ -11,7 +11,7 @@ use lib.Pow.{pow-pos, pow-mono, pow-add}
 use borrow.Author.Needs.{needs}
 use borrow.Author.Tests.{lt-ltb, le-ltb, eq-eqb, ne-eqb, eqb-true, eqb-false}
 use Rattle.float.specs.Bits.{units, infinity}
-use Rattle.float.specs.Float.{rounded, signed, Nearest}
+use Rattle.float.specs.Float.{rounded, withSignBit, Nearest}
 use Rattle.float.proofs.Nearest.{rounded-nearest, nearest-unique, units-mono, units-strict}
 use Rattle.text.specs.Decimal.{settled, decimalOf}
 use Rattle.text.specs.declared.decimal.Real.{Real}
@@ -45,29 +45,29 @@ module _ (num den q : ℕ) (some : 0 < den) (small : q < infinity) (above : unit
         let r = rounded num den in
         omega (arith, rounded-nearest num den some .above-lower (omega arith), add-mul (units (r - 1)) (units r) den, mul-le-mul-right den (units-mono (q + 1) (r - 1) (omega arith)), mul-le-mul-right den (units-mono (q + 1) r (omega arith)))
 
-    lower : (neg : Bool) → Between (signed neg q) ≡ settled neg num den q
+    lower : (neg : Bool) → Between (withSignBit neg q) ≡ settled neg num den q
     unfolding settled
     lower neg = rw (ne-eqb (units q * den) num (λ e. omega arith), le-ltb num (units q * den) above)
 
-    upper : (neg : Bool) → Between (signed neg q) ≡ settled neg num den (q + 1)
+    upper : (neg : Bool) → Between (withSignBit neg q) ≡ settled neg num den (q + 1)
     unfolding settled
     upper neg =
         let e : q + 1 - 1 ≡ q = omega arith in
         rw (ne-eqb (units (q + 1) * den) num (λ e. omega arith), lt-ltb num (units (q + 1) * den) below, e)
 
-    settles-between : (neg : Bool) → Between (signed neg q) ≡ settled neg num den (rounded num den)
+    settles-between : (neg : Bool) → Between (withSignBit neg q) ≡ settled neg num den (rounded num den)
     settles-between neg =
         elim (decLt q (rounded num den)) [
           | yes h ↦ let e : q + 1 ≡ rounded num den = omega (arith, not-above) in upper neg ∙ ap (settled neg num den) e
           | no h ↦ let e : q ≡ rounded num den = omega (arith, not-below) in lower neg ∙ ap (settled neg num den) e
         ]
 
-  settles-is : (neg : Bool) → units q * den ≡ num → Is (signed neg q) ≡ settled neg num den (rounded num den)
+  settles-is : (neg : Bool) → units q * den ≡ num → Is (withSignBit neg q) ≡ settled neg num den (rounded num den)
   unfolding settled
   settles-is neg e = rw (nearest-is e, eq-eqb (units q * den) num e)
 
   -- `exact` says whether the two are equal
-  settles : (neg exact : Bool) → exact ≡ eqb (units q * den) num → cond exact (Is (signed neg q)) (Between (signed neg q)) ≡ settled neg num den (rounded num den)
+  settles : (neg exact : Bool) → exact ≡ eqb (units q * den) num → cond exact (Is (withSignBit neg q)) (Between (withSignBit neg q)) ≡ settled neg num den (rounded num den)
   settles neg true h = settles-is neg (eqb-true (units q * den) num (sym h))
   settles neg false h = let n = eqb-false (units q * den) num (sym h) in settles-between (omega (arith, n)) neg
 
@@ -115,7 +115,7 @@ module _ (k q n u a b num : ℕ) (pos : 0 < u) (is : num ≡ n * u) (lo : units 
             eq-eqb (a * 10 ^ k) n e ∙ sym (eq-eqb (units q * 10 ^ k) num (scaled-lo ∙ ap (λ (x : ℕ). x * u) e ∙ sym is))
       ]
 
-  pub lies : (neg exact : Bool) → exact ≡ eqb (a * 10 ^ k) n → cond exact (Is (signed neg q)) (Between (signed neg q)) ≡ settled neg num (10 ^ k) (rounded num (10 ^ k))
+  pub lies : (neg exact : Bool) → exact ≡ eqb (a * 10 ^ k) n → cond exact (Is (withSignBit neg q)) (Between (withSignBit neg q)) ≡ settled neg num (10 ^ k) (rounded num (10 ^ k))
   lies neg exact h =
       let l : a * 10 ^ k * u ≤ n * u = mul-le-mul-right u from in
       let g : n * u < b * 10 ^ k * u = mul-lt-mul-of-pos-right to pos in
@@ -139,7 +139,7 @@ zero-test : (a v : ℕ) → eqb v 0 ≡ eqb a (a + v)
 zero-test a v = elim (decLt 0 v) [ yes h ↦ ne-eqb v 0 (λ e. omega arith) ∙ sym (ne-eqb a (a + v) (λ e. omega arith)) | no h ↦ eq-eqb v 0 (omega arith) ∙ sym (eq-eqb a (a + v) (omega arith)) ]
 
 module _ (neg : Bool) (k n m e v : ℕ) (inv : (m * 10 ^ k + v) * 2 ^ e ≡ n * 2 ^ 1074) (high : m < 2 ^ 53) (few : e ≤ 1074) (low : 0 < e → 2 ^ 52 ≤ m) (less : v < 10 ^ k) where
-  pub narrow-done : (exact : Bool) → exact ≡ eqb v 0 → cond exact (Is (signed neg (e * 2 ^ 52 + m))) (Between (signed neg (e * 2 ^ 52 + m))) ≡ decimalOf neg n k
+  pub narrow-done : (exact : Bool) → exact ≡ eqb v 0 → cond exact (Is (withSignBit neg (e * 2 ^ 52 + m))) (Between (withSignBit neg (e * 2 ^ 52 + m))) ≡ decimalOf neg n k
   unfolding decimalOf
   narrow-done exact h =
       let next : e * 2 ^ 52 + m + 1 ≡ e * 2 ^ 52 + (m + 1) = omega arith in
@@ -185,7 +185,7 @@ module _ {whole m p e : ℕ} (inv : Halving whole m p e) (fits : whole < 2 ^ 64)
         let z : e ≡ e - 1074 + 1074 = omega (arith, inv .past) in
         ap (λ (y : ℕ). x * 2 ^ y) z ∙ ap (λ (y : ℕ). x * y) (pow-add 2 (e - 1074) 1074 ∙ ap (λ (y : ℕ). y * 2 ^ 1074) (sym (inv .worth))) ∙ sym (mul-assoc x p (2 ^ 1074))
 
-    done : (exact : Bool) → exact ≡ eqb (m * p * 10 ^ k) (whole * 10 ^ k + v) → cond exact (Is (signed neg (e * 2 ^ 52 + m))) (Between (signed neg (e * 2 ^ 52 + m))) ≡ decimalOf neg (whole * 10 ^ k + v) k
+    done : (exact : Bool) → exact ≡ eqb (m * p * 10 ^ k) (whole * 10 ^ k + v) → cond exact (Is (withSignBit neg (e * 2 ^ 52 + m))) (Between (withSignBit neg (e * 2 ^ 52 + m))) ≡ decimalOf neg (whole * 10 ^ k + v) k
     unfolding decimalOf
     done exact h =
         let next : e * 2 ^ 52 + m + 1 ≡ e * 2 ^ 52 + (m + 1) = omega arith in
@@ -193,10 +193,10 @@ module _ {whole m p e : ℕ} (inv : Halving whole m p e) (fits : whole < 2 ^ 64)
         let hi : (whole + 1) * 10 ^ k ≤ (m + 1) * p * 10 ^ k = mul-le-mul-right (10 ^ k) (omega (arith, inv .ceiling)) in
         lies k (e * 2 ^ 52 + m) (whole * 10 ^ k + v) (2 ^ 1074) (m * p) ((m + 1) * p) ((whole * 10 ^ k + v) * 2 ^ 1074) (pow-pos 1074) refl (units-at m e (omega arith) (λ z. inv .least) ∙ steps m) (ap units next ∙ units-at (m + 1) e (omega arith) (λ z. omega (arith, inv .least)) ∙ steps (m + 1)) (omega arith) (omega (arith, add-mul whole 1 (10 ^ k), one-mul (10 ^ k))) (omega (arith, halving-few)) neg exact h
 
-    pub wide-equal : (exact : Bool) → m * p ≡ whole → exact ≡ eqb v 0 → cond exact (Is (signed neg (e * 2 ^ 52 + m))) (Between (signed neg (e * 2 ^ 52 + m))) ≡ decimalOf neg (whole * 10 ^ k + v) k
+    pub wide-equal : (exact : Bool) → m * p ≡ whole → exact ≡ eqb v 0 → cond exact (Is (withSignBit neg (e * 2 ^ 52 + m))) (Between (withSignBit neg (e * 2 ^ 52 + m))) ≡ decimalOf neg (whole * 10 ^ k + v) k
     wide-equal exact q h = done exact (h ∙ zero-test (whole * 10 ^ k) v ∙ sym (ap (λ (x : ℕ). eqb (x * 10 ^ k) (whole * 10 ^ k + v)) q))
 
-    pub wide-between : (m * p ≡ whole → ⊥) → Between (signed neg (e * 2 ^ 52 + m)) ≡ decimalOf neg (whole * 10 ^ k + v) k
+    pub wide-between : (m * p ≡ whole → ⊥) → Between (withSignBit neg (e * 2 ^ 52 + m)) ≡ decimalOf neg (whole * 10 ^ k + v) k
     wide-between q =
         let l : m * p < whole = omega (arith, inv .floor) in
         let g : 1 ≤ 10 ^ k = one-le-pow k 10 (omega arith) in
@@ -204,10 +204,10 @@ module _ {whole m p e : ℕ} (inv : Halving whole m p e) (fits : whole < 2 ^ 64)
 
 -- ---- the answer
 
-pub sign-plus : {neg : Bool} (q : ℕ) → neg ≡ true → 9223372036854775808 + q ≡ signed neg q
+pub sign-plus : {neg : Bool} (q : ℕ) → neg ≡ true → 9223372036854775808 + q ≡ withSignBit neg q
 sign-plus {neg} q h = rw h
 
-pub sign-none : {neg : Bool} (q : ℕ) → neg ≡ false → q ≡ signed neg q
+pub sign-none : {neg : Bool} (q : ℕ) → neg ≡ false → q ≡ withSignBit neg q
 sign-none {neg} q h = rw h (omega arith)
 
 module _ {exact : Bool} {p x : ℕ} (h : p ≡ x) where
