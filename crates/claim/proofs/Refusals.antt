@@ -42,7 +42,8 @@ unfolding nodesFault nodeFault
 nodes-most ws base zero = omega arith
 nodes-most ws base (suc n) =
     else-most (nodesFault ws base n) _ (nodes-most ws base n)
-    (else-most (kindFault (kindAt ws n) (payloadAt ws n)) _ (else-most _ _ (fault-most _ (omega arith)) (fault-most _ (omega arith)))
+    (else-most (kindFault (kindAt ws n) (payloadAt ws n)) _
+    (else-most _ _ (fault-most _ (omega arith)) (else-most _ _ (fault-most _ (omega arith)) (fault-most _ (omega arith))))
     (else-most (spanFault (children ws (arity (kindAt ws n)) n 0) (firstAt ws n) (depthAt ws n)) _ (span-most ws (arity (kindAt ws n)) n 0 (firstAt ws n) (depthAt ws n))
     (else-most _ _ (fault-most _ (omega arith)) (fault-most _ (omega arith)))))
 

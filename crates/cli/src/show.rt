@@ -57,7 +57,7 @@ fn say_meaning(n: u8) {
         tell_line(
             b": no number of the table\n\
               : table empty, not a multiple of 4 words, or over 4096 nodes\n\
-              : unknown kind, non-zero payload, missing child, wrong first or depth, or the last node's first is not 0\n\
+              : unknown kind, non-zero payload, a Float that is not finite, missing child, wrong first or depth, or the last node's first is not 0\n\
               : depth over 64\n\
               : Ref or destination not below the base\n\
               : parameters plus locals, or an allocation, pass 65535 registers\n\
@@ -74,7 +74,7 @@ fn say_meaning(n: u8) {
             b": wrong kind of value\n\
               : integer result outside 64 bits signed\n\
               : Mod by zero\n\
-              : Int outside -2^53..2^53 meets a Float, or stands in Div\n\
+              : Int outside -2^53..2^53 meets a Float in Add, Sub or Mul, or stands in Div\n\
               : shift amount outside 0..63\n\
               : budget spent\n\
               : register, slot or taken target out of range\n\

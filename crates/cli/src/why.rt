@@ -14,6 +14,7 @@ use reader::head::Head;
 use reader::head::base_of;
 use reader::read;
 use reader::why::DEEP;
+use reader::why::FINITE;
 use reader::why::GIVEN;
 use reader::why::KIND;
 use reader::why::PAYLOAD;
@@ -30,6 +31,7 @@ fn numbers(w: u64, s: Seen, base: u64) -> Numbers {
         PAYLOAD => two(s.kind, s.payload),
         GIVEN => four(s.first_given, s.depth_given, s.first, s.depth),
         DEEP => one(s.depth),
+        FINITE => none(),
         _ => two(s.payload, base),
     }
 }
@@ -43,7 +45,8 @@ fn say_seen(s: Seen, base: u64) {
           a child is missing: too few nodes stand before it\n\
           first % and depth % are given, and its children give % and %\n\
           its depth is %\n\
-          register % is not below the base, %",
+          register % is not below the base, %\n\
+          a Float that is not finite",
         w,
         numbers(w, s, base),
     );

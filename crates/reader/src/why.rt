@@ -18,6 +18,8 @@ pub const DEEP: u64 = 5;
 
 pub const REGISTER: u64 = 6;
 
+pub const FINITE: u64 = 7;
+
 // What is known of a node: what the completed table has, and what its line gave.
 pub struct Seen {
     pub kind: u64,
@@ -57,6 +59,11 @@ pub fn look(nodes: &[u64], i: usize, l: Line) -> Seen
     s
 }
 
+// A Float literal is finite.
+fn why_float(p: u64) -> u64 {
+    if float::bits::is_finite(p) { 0 } else { FINITE }
+}
+
 // A kind that is known, and a payload that the kind has.
 fn why_kind(k: u64, p: u64) -> u64 {
     if table::TERNARY < k {
@@ -67,6 +74,9 @@ fn why_kind(k: u64, p: u64) -> u64 {
     }
     if k < table::INT {
         return PAYLOAD;
+    }
+    if k == table::FLOAT {
+        return why_float(p);
     }
     if table::REF < k { PAYLOAD } else { 0 }
 }

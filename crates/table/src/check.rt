@@ -24,7 +24,7 @@ fn either(a: bool, n: u8, b: bool, m: u8) -> u8
     faults::NONE
 }
 
-// The kind is known, and the payload is 0 but for kinds 3 to 5.
+// The kind is known, the payload is 0 but for kinds 3 to 5, and a Float literal is finite: no editor writes another, so that one is damage.
 fn kind_fault(k: u64, p: u64) -> u8
     ensures { λ r. ⌜ r ≡ kindFault k p ⌝ }
 {
@@ -32,7 +32,7 @@ fn kind_fault(k: u64, p: u64) -> u8
     either(
         crate::TERNARY < k,
         faults::BAD_NODE,
-        (p != 0) & idle,
+        ((p != 0) & idle) | ((k == crate::FLOAT) & !float::bits::is_finite(p)),
         faults::BAD_NODE,
     )
 }
