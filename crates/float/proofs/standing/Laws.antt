@@ -74,7 +74,7 @@ module _ (op : Cmp) (p q : ℕ) (f : Fits w64 p) (w : 2 ^ 53 < natAbs (toZ w64 p
   stands-like h d = d ∙ ap (holds op) (sym (stands-by ∙ ap (standsBy (toZ w64 p) q) h))
 
 -- an Int that is a Float
-narrow-stands : (n : ℤ) (q : ℕ) → natAbs n ≤ 2 ^ 53 → order (read (F.ofInt n)) (read q) ≡ standing n q
+pub narrow-stands : (n : ℤ) (q : ℕ) → natAbs n ≤ 2 ^ 53 → order (read (F.ofInt n)) (read q) ≡ standing n q
 unfolding standing
 narrow-stands n q h = ap (λ (x : Real). order x (read q)) (ofInt-exact n h)
 

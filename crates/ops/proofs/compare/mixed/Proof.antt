@@ -1,4 +1,4 @@
--- `mixed` meets its contract: the Int is compared as a Float, where it is one. Assumes nothing.
+-- `mixed` meets its contract: how the two stand is found in `float::standing`.
 use Rattle.ops.proofs.compare.Laws.{answers}
 use borrow.Author.Needs.{needs}
 use Rattle.ops.proofs.compare.mixed.Statement.{statement}
@@ -7,17 +7,5 @@ use Rattle.ops.proofs.compare.mixed.Tie as tie
 returns : tie.Need-returns
 returns c = search (answers, needs)
 
-returns-2 : tie.Need-returns-2
-returns-2 c = search (answers, needs)
-
 pub mixed-spec : {M : Type 1} → statement M
-mixed-spec =
-    tie.close
-    (tie.spec
-    (λ c κs. search needs)
-    (λ c. search needs)
-    (λ c κs. search needs)
-    (λ c κs. search needs)
-    (λ c. search needs)
-    returns
-    returns-2)
+mixed-spec = tie.close (tie.spec (λ c κs. search needs) (λ c κs. search needs) returns)
