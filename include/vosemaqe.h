@@ -3,13 +3,13 @@
  * This header is the manual of libvosemaqe.a (x86-64 Linux; link nothing beside it but a C library, for memset). What each function returns and leaves
  * behind is proved, on every input (docs/CLAIMS.md); bytes of stack are measured (docs/STACK.md); docs/TRUST.md says what is trusted.
  *
- *     rt staticlib vosemaqe                           proves the library and writes target/staticlib/libvosemaqe.a
- *     cc -Iinclude prog.c target/staticlib/libvosemaqe.a
+ *     make install PREFIX=/usr/local                      proves the library, then installs header, archive and pkg-config file
+ *     cc prog.c $(pkg-config --cflags --libs vosemaqe)
  *
  * WHAT EVERY FUNCTION PROMISES
  *
- *   - It returns a number: 0 for done, else why not (enum vosemaqe_number). It returns on every input; the only function whose time is not
- *     bounded by the length of what it is lent is the machine, and that is bounded by its budget.
+ *   - It returns a number: 0 for done, else why not (enum vosemaqe_number); only vosemaqe_complete, which refuses nothing, and vosemaqe_version do not. It
+ *     returns on every input. Its time is bounded by the length of what it is lent; that of the machine by its budget.
  *   - It reads and writes only what it is lent. It allocates nothing, keeps nothing, has no state, and calls nothing but memset. So any number of
  *     threads may call at once, each with buffers of its own; a buffer that is only read may be shared.
  *   - Every result cell is written: it holds 0 where the number is not 0, but for the steps and the position of a run, which a stopped run has too.
@@ -17,8 +17,9 @@
  *
  * WHAT THE CALLER OWES
  *
- *   - A pointer and its length describe memory that is the caller's, aligned for its type. A pointer whose length is 0 is never followed: it may be null.
- *     A result cell is one uint64_t and is never null.
+ *   - A pointer and its length describe memory that is the caller's, aligned for its type. A length counts elements, not bytes: a table of 6 nodes is lent
+ *     as 24 words. Lengths, positions and counts are 64 bits wide. A pointer whose length is 0 is never followed: it may be null. A result cell is one
+ *     uint64_t and is never null.
  *   - What is written may not overlap anything else that is lent to the same call, result cells included. What is only read may.
  *   - The processor's float control is as a process starts with it: rounding to nearest, subnormal numbers kept (no -ffast-math when linking).
  *
@@ -33,8 +34,8 @@
  *
  * NODE TABLES are runs of 64-bit words, four to a node: kind, payload, first, depth. Nodes stand in post-order, the root last: the last child
  * of node i is i - 1, the child before it ends just before that one's `first`. `first` is the lowest node of the subtree; `depth` is 1 for a leaf,
- * else one more than the deepest child's. The payload is 0 but for an Int (two's complement), a Float (bits) and a Ref (a register).
- * The layout is `params` + `locals`, the base: a Ref, and a destination, is below it. `dest` is 0 for none, r + 1 for register r.
+ * else one more than the deepest child's. vosemaqe_complete fills in both. The payload is 0 but for an Int (two's complement), a Float (bits) and a Ref
+ * (a register). The layout is `params` + `locals`, the base: a Ref, and a destination, is below it. `dest` is 0 for none, r + 1 for register r.
  *
  * WHAT AN EXPRESSION MEANS, evaluated or run: left before right; within one operation 20, 23, 22 or 24, 21.
  *
@@ -45,16 +46,35 @@
  *   - LT, LE, GT, GE: numbers; a NaN is unordered. EQ, NE: any values; different kinds are unequal, but an Int and a Float are compared as numbers, under the
  *     conversion rule above.
  *   - AND, OR, NOT and a TERNARY's test want a Bool (20), and skip what they need not evaluate.
+ *
+ * RUNNING AGREES WITH EVALUATING. This is proved for every table that a compile accepts and for every value that its locals may hold. Lend to vosemaqe_run
+ *
+ *   - all the *words words of the compile, and start at 0 (or lend to vosemaqe_run_part a store and the part of it that is these words);
+ *   - its slots: the *slots constants, and behind them any well-formed values, such as the zeros that the compile left there;
+ *   - at least *frame registers, every one well-formed, the locals in those below params + locals;
+ *   - a budget of at least *words.
+ *
+ * Then
+ *
+ *   - where vosemaqe_evaluate gives a value for the table on the same registers, the run is done: it returns 0 at position *words, and register *reg holds
+ *     that value, bit for bit. Where it gives a fault, one of 20 to 24, the run returns that number. The run returns no other number;
+ *   - the run takes at most *words steps, and fewer where it returns a fault;
+ *   - the temporaries are the registers from max(params + locals, 1) up to *frame, *frame not included. Every register below them but the destination, and
+ *     every register from *frame on, is as it was. The destination is written only where the run is done: after a fault it too is as it was;
+ *   - what the temporaries held before changes neither number nor steps nor position nor value. But they are checked like every register: a pair that is
+ *     ill-formed is 29, so fill them once, with VOSEMAQE_NIL and 0. What they hold afterwards is well-formed, and means nothing.
  */
 #ifndef VOSEMAQE_H
 #define VOSEMAQE_H
 
-#include <stddef.h>
 #include <stdint.h>
 
 #ifdef __cplusplus
 extern "C" {
 #endif
+
+/* The version of this header: 10000 * major + 100 * minor + patch. vosemaqe_version() gives that of the library; CHANGELOG.md says what changed. */
+#define VOSEMAQE_VERSION 100
 
 /* The numbers. */
 enum vosemaqe_number {
@@ -108,9 +128,17 @@ enum vosemaqe_node {
     VOSEMAQE_NODE_AND = 24, VOSEMAQE_NODE_OR = 25, VOSEMAQE_NODE_TERNARY = 26
 };
 
-/* The opcodes, the low byte of a word. Operands in declared order follow the name; r is a register, s a slot, n an unsigned number,
- * i a signed 16-bit literal, v the raw bits of a value in 40 bits (4n of an Int n, Nil 1, False 5, True 9), j a displacement (target - position - 1);
- * the number beside a letter is the width of the field. A * is run by the machine; panic stops it with 27, any other with 28. */
+/* The opcodes, the low byte of a word. The operands follow in declared order, each above the one before it, the first from bit 8 on; bits above the last
+ * one are 0. Beside each name stand its operands, with their widths in bits:
+ *
+ *     r       a register, 16
+ *     s       a constant slot, 32
+ *     i       a signed literal, 16
+ *     v       the raw bits of a value, 40, signed: 4n for an Int n, 1 for Nil, 5 for False, 9 for True
+ *     nW      an unsigned number, W
+ *     jW      a signed displacement, W: target - position - 1
+ *
+ * A * marks what the machine runs; panic stops it with 27, any other with 28. */
 enum vosemaqe_opcode {
     VOSEMAQE_OP_PANIC = 0,
     VOSEMAQE_OP_BREAKPOINT = 1,
@@ -191,42 +219,49 @@ enum vosemaqe_opcode {
     VOSEMAQE_OP_RET_IMM40 = 76            /* v */
 };
 
+/* The version of the library, as VOSEMAQE_VERSION counts it: equal to the header's, or the program was compiled with another version's header. */
+uint32_t vosemaqe_version(void);
+
+/* Fills in the first and depth of every node, from the kinds alone, whatever stood there. Kinds and payloads stay, and so do words after the last whole
+ * node. A node whose children are missing gets 0 and 0: no depth is 0, so vosemaqe_check refuses its table. An unknown kind is taken to have three. */
+void vosemaqe_complete(uint64_t *nodes, uint64_t nodes_len);
+
 /* The number of a table with its layout and its destination: 0 to 5, the first fault in this order: 1, 5 of the layout, 4 of the destination,
  * 2, 3, 4 of each node from 0 upward, 2 of the last node's first. */
-uint8_t vosemaqe_check(const uint64_t *nodes, size_t nodes_len, uint64_t params, uint64_t locals, uint64_t dest);
+uint8_t vosemaqe_check(const uint64_t *nodes, uint64_t nodes_len, uint64_t params, uint64_t locals, uint64_t dest);
 
 /* Compiles a table. Done: `code` holds *words words and zeros after them; slot_kinds and slot_payloads hold *slots constants and zeros after them;
  * *reg is the register that holds the value after a run (the destination, if one was given), *frame how many registers a run needs. Refused: the number is
  * vosemaqe_check's, or the first of 5, 6, 7 in the order of emission; all of code, slot_kinds, slot_payloads and the cells are zero. */
-uint8_t vosemaqe_compile(const uint64_t *nodes, size_t nodes_len, uint64_t params, uint64_t locals, uint64_t dest,
-    uint64_t *code, size_t code_len, uint8_t *slot_kinds, size_t slot_kinds_len, uint64_t *slot_payloads, size_t slot_payloads_len,
+uint8_t vosemaqe_compile(const uint64_t *nodes, uint64_t nodes_len, uint64_t params, uint64_t locals, uint64_t dest,
+    uint64_t *code, uint64_t code_len, uint8_t *slot_kinds, uint64_t slot_kinds_len, uint64_t *slot_payloads, uint64_t slot_payloads_len,
     uint64_t *words, uint64_t *slots, uint64_t *reg, uint64_t *frame);
 
 /* The same with a lent jump list in place of the 2,048 places that vosemaqe_compile has on its stack: 7 where it runs out. All of `jumps` is left zero. */
-uint8_t vosemaqe_compile_with(const uint64_t *nodes, size_t nodes_len, uint64_t params, uint64_t locals, uint64_t dest,
-    uint64_t *code, size_t code_len, uint8_t *slot_kinds, size_t slot_kinds_len, uint64_t *slot_payloads, size_t slot_payloads_len,
-    uint64_t *jumps, size_t jumps_len, uint64_t *words, uint64_t *slots, uint64_t *reg, uint64_t *frame);
+uint8_t vosemaqe_compile_with(const uint64_t *nodes, uint64_t nodes_len, uint64_t params, uint64_t locals, uint64_t dest,
+    uint64_t *code, uint64_t code_len, uint8_t *slot_kinds, uint64_t slot_kinds_len, uint64_t *slot_payloads, uint64_t slot_payloads_len,
+    uint64_t *jumps, uint64_t jumps_len, uint64_t *words, uint64_t *slots, uint64_t *reg, uint64_t *frame);
 
 /* The value of a table on its locals, by its tree and not by its words. Checked in this order: the table and the layout; 26 if fewer pairs than the base
  * are lent; 29 if one of the first base pairs is ill-formed; then the first of 20 to 24 that the expression meets. Writes only the two cells. */
-uint8_t vosemaqe_evaluate(const uint64_t *nodes, size_t nodes_len, uint64_t params, uint64_t locals,
-    const uint8_t *kinds, size_t kinds_len, const uint64_t *payloads, size_t payloads_len, uint64_t *kind, uint64_t *payload);
+uint8_t vosemaqe_evaluate(const uint64_t *nodes, uint64_t nodes_len, uint64_t params, uint64_t locals,
+    const uint8_t *kinds, uint64_t kinds_len, const uint64_t *payloads, uint64_t payloads_len, uint64_t *kind, uint64_t *payload);
 
 /* Runs words from `start` (0 for a compiled expression) until the position equals the length, on registers and slots lent as pairs, at most `budget` steps.
  * Before the first step: 26 for a start past the length (at that position), 29 for an ill-formed register or slot (at position 0); 0 steps, registers
  * unchanged. At each step, in this order: the end, 25, 10, 27 or 28, 26 for a register or a slot, the operation's 20 to 24, 26 for a taken target.
  * *steps is the number of steps taken, *position the stopping word's, or the length when done. A stopping step is not counted and writes nothing.
  * A compiled expression takes at most as many steps as it has words. */
-uint8_t vosemaqe_run(const uint64_t *words, size_t words_len, size_t start,
-    uint8_t *kinds, size_t kinds_len, uint64_t *payloads, size_t payloads_len,
-    const uint8_t *slot_kinds, size_t slot_kinds_len, const uint64_t *slot_payloads, size_t slot_payloads_len,
+uint8_t vosemaqe_run(const uint64_t *words, uint64_t words_len, uint64_t start,
+    uint8_t *kinds, uint64_t kinds_len, uint64_t *payloads, uint64_t payloads_len,
+    const uint8_t *slot_kinds, uint64_t slot_kinds_len, const uint64_t *slot_payloads, uint64_t slot_payloads_len,
     uint64_t budget, uint64_t *steps, uint64_t *position);
 
 /* Runs the words of a store from `entry` up to `end`, from their first on; *position counts from the entry. 26 at the entry given, with 0 steps and
  * registers unchanged, if the entry is past the end or the end past the store. */
-uint8_t vosemaqe_run_part(const uint64_t *store, size_t store_len, size_t entry, size_t end,
-    uint8_t *kinds, size_t kinds_len, uint64_t *payloads, size_t payloads_len,
-    const uint8_t *slot_kinds, size_t slot_kinds_len, const uint64_t *slot_payloads, size_t slot_payloads_len,
+uint8_t vosemaqe_run_part(const uint64_t *store, uint64_t store_len, uint64_t entry, uint64_t end,
+    uint8_t *kinds, uint64_t kinds_len, uint64_t *payloads, uint64_t payloads_len,
+    const uint8_t *slot_kinds, uint64_t slot_kinds_len, const uint64_t *slot_payloads, uint64_t slot_payloads_len,
     uint64_t budget, uint64_t *steps, uint64_t *position);
 
 /* The opcode and the operands of a word in declared order, zero in those that it lacks; a signed one is two's complement of 64 bits. 10, and all zero, if
@@ -238,7 +273,7 @@ uint8_t vosemaqe_decode(uint64_t word, uint64_t *opcode, uint64_t *a, uint64_t *
 uint8_t vosemaqe_encode(uint64_t opcode, uint64_t a, uint64_t b, uint64_t c, uint64_t d, uint64_t e, uint64_t *word);
 
 /* Aims the branch at position `at` at a target, which is any number. Checked in this order: 12, 10, 11, 8. Changes one word when done, else none. */
-uint8_t vosemaqe_patch(uint64_t *words, size_t words_len, size_t at, uint64_t target);
+uint8_t vosemaqe_patch(uint64_t *words, uint64_t words_len, uint64_t at, uint64_t target);
 
 #ifdef __cplusplus
 }

@@ -86,6 +86,15 @@ static void compile(uint64_t params, uint64_t dest, size_t room, size_t slots, i
     EXPECT(kept());
 }
 
+/* first and depth, which the table's builder counted, filled in by the library over what is spoiled. */
+static void completes(void) {
+    uint64_t *nodes = lend(NULL, 32 * N);
+    for (size_t i = 0; i < N; i++) { nodes[4 * i] = T[4 * i]; nodes[4 * i + 1] = T[4 * i + 1]; }
+    vosemaqe_complete(nodes, 4 * N);
+    EXPECT(!memcmp(nodes, T, 32 * N));
+    EXPECT(kept());
+}
+
 /* Both ways to compile, with room, answer the same; the number is the answer. */
 static uint8_t compiles(uint64_t params, uint64_t dest) {
     compile(params, dest, VOSEMAQE_WORDS_FOR(N), N < 64 ? VOSEMAQE_SLOTS_FOR(N) : 64, 1);
@@ -93,6 +102,7 @@ static uint8_t compiles(uint64_t params, uint64_t dest) {
     compile(params, dest, VOSEMAQE_WORDS_FOR(N), N < 64 ? VOSEMAQE_SLOTS_FOR(N) : 64, 0);
     uint64_t after[] = {C.number, C.words, C.slots, C.reg, C.frame};
     EXPECT(!memcmp(before, after, sizeof before) && (C.words == 0 || first == code[0]));
+    if (C.number != VOSEMAQE_BAD_NODE) completes();
     N = 0;
     return C.number;
 }
@@ -133,7 +143,9 @@ static void evaluate(uint64_t base, const uint8_t *ks, const uint64_t *ps, size_
 static void run(const uint8_t *ks, const uint64_t *ps, size_t n, uint64_t budget) {
     uint8_t rk[16] = {0}; uint64_t rp[16] = {0}, store[80];
     memcpy(rk, ks, n); memcpy(rp, ps, 8 * n);
-    for (int part = 0; part < 2; part++) {
+    /* the words alone; as a part of a store; alone again, on the temporaries that the run before left */
+    for (int turn = 0; turn < 3; turn++) {
+        int part = turn == 1;
         uint64_t *cells = lend(NULL, 16), *p = lend(NULL, 8 * 16), *sp = lend(slot_payloads, 8 * C.slots), *w;
         uint8_t *k = lend(NULL, 16), *sk = lend(slot_kinds, C.slots), number;
         memcpy(k, rk, 16); memcpy(p, rp, sizeof rp);
@@ -146,9 +158,10 @@ static void run(const uint8_t *ks, const uint64_t *ps, size_t n, uint64_t budget
             w = lend(code, 8 * C.words);
             number = vosemaqe_run(w, C.words, 0, k, 16, p, 16, sk, C.slots, sp, C.slots, budget, cells, cells + 1);
         }
-        if (part) EXPECT(number == R.number && cells[0] == R.steps && cells[1] == R.position && k[C.reg] == R.kind && p[C.reg] == R.payload);
+        if (turn) EXPECT(number == R.number && cells[0] == R.steps && cells[1] == R.position && k[C.reg] == R.kind && p[C.reg] == R.payload);
         R.number = number; R.steps = cells[0]; R.position = cells[1]; R.kind = k[C.reg]; R.payload = p[C.reg];
         EXPECT(!memcmp(k, rk, n) && !memcmp(p, rp, 8 * n) && !memcmp(k + C.frame, rk + C.frame, 16 - C.frame) && !memcmp(p + C.frame, rp + C.frame, 8 * (16 - C.frame)));
+        for (uint64_t i = n; i < C.frame; i++) { rk[i] = k[i]; rp[i] = p[i]; }
         EXPECT(kept());
     }
 }
@@ -254,6 +267,12 @@ int main(void) {
     EXPECT(vosemaqe_compile(NULL, 0, 0, 0, 0, NULL, 0, NULL, 0, NULL, 0, &a, &b, &c, &d) == VOSEMAQE_BAD_SHAPE && !(a | b | c | d));
     EXPECT(vosemaqe_run(NULL, 0, 0, NULL, 0, NULL, 0, NULL, 0, NULL, 0, 0, &a, &b) == 0 && !(a | b));
     EXPECT(vosemaqe_patch(NULL, 0, 0, 0) == VOSEMAQE_NO_WORD);
+    /* first and depth: 0 where children are missing; words after the last whole node stay */
+    uint64_t lone[] = {VOSEMAQE_NODE_ADD, 0, 7, 7, 8, 9, 10}, filled[] = {VOSEMAQE_NODE_ADD, 0, 0, 0, 8, 9, 10};
+    vosemaqe_complete(NULL, 0);
+    vosemaqe_complete(lone, 7);
+    EXPECT(!memcmp(lone, filled, sizeof lone) && vosemaqe_check(lone, 4, 0, 0, 0) == VOSEMAQE_BAD_NODE);
+    EXPECT(vosemaqe_version() == VOSEMAQE_VERSION);
     /* the evaluator's refusals of what is lent */
     ref(0); evaluate(1, (const uint8_t[]){2}, (const uint64_t[]){7}, 1); EXPECT(V.number == 0 && V.kind == VOSEMAQE_INT && V.payload == 7);
     evaluate(1, (const uint8_t[]){1}, (const uint64_t[]){2}, 1); EXPECT(V.number == VOSEMAQE_ILL_FORMED);

@@ -30,6 +30,6 @@ fi
 # No state: nothing is defined that can be written. Nothing is called but memset.
 [ "$(nm -u "$archive" | grep ' U ' | sed 's/.* U //' | sort -u)" = memset ] || { echo "boundary: the archive calls more than memset"; exit 1; }
 if nm "$archive" | grep ' [BbCDdGgSs] '; then echo "boundary: the archive has state"; exit 1; fi
-[ "$(nm -g --defined-only "$archive" | sed -n 's/.* T //p' | sort)" = "$(grep -o '^uint8_t vosemaqe_[a-z_]*' include/vosemaqe.h | sed 's/.* //' | sort)" ] \
+[ "$(nm -g --defined-only "$archive" | sed -n 's/.* T //p' | sort)" = "$(sed -n 's/^[a-z0-9_]* \(vosemaqe_[a-z_]*\)(.*/\1/p' include/vosemaqe.h | sort)" ] \
     || { echo "boundary: the archive and the header name other functions"; exit 1; }
 echo "boundary: the archive has the header's functions, no state, and calls memset alone"

@@ -12,7 +12,8 @@ ghost use Prim.Native.Nat.{_<_, _^_};
 ghost use lib.ListN.{length};
 ghost use Rattle.value.specs.Answer.{resultOf};
 ghost use Rattle.machine.specs.Run.{out};
-ghost use Rattle.claim.specs.Claim.{Whole, Wide};
+ghost use Rattle.claim.specs.Claim.{Wide};
+ghost use Rattle.claim.specs.Entry.{Whole};
 
 // What compiling answers, what the tree gives, and what a run of the words reports: of a refused table the number, and no step.
 pub struct Tried {
@@ -49,7 +50,12 @@ pub fn compile_evaluate_and_run(
     payloads: &mut [u64],
     budget: u64,
 ) -> Tried
-    ensures { λ r. ⌜ Whole (now (nodes .entry)) params locals dest (length (now (code .entry))) (length (now («slot_kinds» .entry))) (length (now («slot_payloads» .entry))) (now (kinds .entry)) (now (payloads .entry)) budget (r .compiled) (now (code .exit)) (now («slot_kinds» .exit)) (now («slot_payloads» .exit)) (resultOf (r .tree)) (out (r .ran) (now (kinds .exit)) (now (payloads .exit))) ⌝ }
+    ensures { λ r. ⌜
+        Whole (now (nodes .entry)) params locals dest
+        (length (now (code .entry))) (length (now («slot_kinds» .entry))) (length (now («slot_payloads» .entry)))
+        (now (kinds .entry)) (now (payloads .entry)) budget
+        (r .compiled) (now (code .exit)) (now («slot_kinds» .exit)) (now («slot_payloads» .exit))
+        (resultOf (r .tree)) (out (r .ran) (now (kinds .exit)) (now (payloads .exit))) ⌝ }
 {
     are_wide(nodes);
     are_wide(payloads);

@@ -5,7 +5,7 @@ use run::run;
 use value::answer::Answer;
 ghost use Rattle.value.specs.Answer.{resultOf};
 ghost use Rattle.machine.specs.Run.{out};
-ghost use Rattle.claim.specs.Claim.{Promised};
+ghost use Rattle.claim.specs.Entry.{Promised};
 
 // What a run reports, and what the tree gives.
 pub struct Both {
@@ -25,7 +25,11 @@ pub fn evaluate_and_run(
     payloads: &mut [u64],
     budget: u64,
 ) -> Both
-    ensures { λ r. ⌜ Promised (now (nodes .entry)) params locals (now (words .entry)) (now («slot_kinds» .entry)) (now («slot_payloads» .entry)) (now (kinds .entry)) (now (payloads .entry)) budget (resultOf (r .tree)) (out (r .ran) (now (kinds .exit)) (now (payloads .exit))) ⌝ }
+    ensures { λ r. ⌜
+        Promised (now (nodes .entry)) params locals
+        (now (words .entry)) (now («slot_kinds» .entry)) (now («slot_payloads» .entry))
+        (now (kinds .entry)) (now (payloads .entry)) budget
+        (resultOf (r .tree)) (out (r .ran) (now (kinds .exit)) (now (payloads .exit))) ⌝ }
 {
     let tree = evaluate(nodes, params, locals, kinds, payloads);
     let ran = run(words, 0, kinds, payloads, slot_kinds, slot_payloads, budget);

@@ -1,4 +1,4 @@
--- The constants of a compiled table are literals of its nodes, so that the slots that compiling leaves lend them, with Nil behind. Assumes nothing.
+-- The constants of a compiled table are literals of its nodes, so that the slots that compiling leaves lend them, with Nil behind.
 use mathlib.Core.Path.{_≡_, refl, ap}
 use mathlib.Core.Bool.{Bool, true, false, not}
 use mathlib.Core.List.{List, [], _∷_, _++_, map}

@@ -1,4 +1,4 @@
--- One call that compiles, evaluates and runs: what it is lent is 64-bit words, and its two ways out are as claimed. Assumes nothing.
+-- One call that compiles, evaluates and runs: what it is lent is 64-bit words, and its two ways out are as claimed.
 use mathlib.Core.Path.{_≡_, refl, sym, ap, _∙_, subst}
 use mathlib.Core.Bool.{Bool, true, false}
 use mathlib.Core.List.{List, _++_, map}
@@ -19,8 +19,10 @@ use Rattle.compile.specs.declared.buffers.Compiled.{Compiled}
 use Rattle.compile.specs.declared.buffers.Compiled.the-variants.{Done, Refused}
 use Rattle.compile.specs.Compile.{compileOf}
 use Rattle.compile.specs.Buffers.{Compiles, answered, padded, wordsOf, kindsOf, payloadsOf}
-use Rattle.claim.specs.Claim.{Accepted, Wide, Slots, Promised, Whole}
-use Rattle.claim.proofs.Theorem.{refusals, slots-left}
+use Rattle.claim.specs.Claim.{Accepted, Wide, Slots}
+use Rattle.claim.specs.Entry.{Promised, Whole}
+use Rattle.claim.proofs.Theorem.{slots-left}
+use Rattle.claim.proofs.Refusals.{refusals}
 
 -- ---- 64-bit words, seen one after the other
 
@@ -119,7 +121,7 @@ module _ (nodes : List ℕ) (params locals : ℕ) (dest : Dest) {c k p : ℕ} (k
             compile = h;
             tree = i;
             run = rw z;
-            agree = λ passed. refusals nodes params locals dest maxNodes c (min k p) f passed (sym is);
+            agree = λ passed. refusals nodes params locals dest maxNodes c (min k p) .lacks f passed (sym is);
           }
 
 -- ---- one outcome only

@@ -1,8 +1,13 @@
--- Demand 3: the pairs and constants of a run, the theorem, what follows from it.
+-- Demand 3: what compiling a table gives, the pairs and constants of a run, the theorem; and what is refused, where the value stands, which opcodes are emitted.
+pub mod Literals
+pub mod Known
 pub mod Pairs
 pub mod Consts
 pub mod Theorem
+pub mod Refusals
+pub mod Emitted
 pub mod Placed
 pub mod Places
+pub mod Registers
 pub mod Entry
 pub mod fragments

@@ -1,4 +1,4 @@
--- Registers lent as pairs: a run over them is the run over their values, its payloads stay 64 bits wide, and a value read back is the pair. Assumes nothing.
+-- Registers lent as pairs: a run over them is the run over their values, its payloads stay 64 bits wide, and a value read back is the pair.
 use mathlib.Core.Path.{_≡_, refl, sym, _∙_}
 use mathlib.Core.Bool.{Bool, true, false, cond}
 use mathlib.Core.List.{List}
@@ -23,7 +23,7 @@ use Rattle.machine.specs.declared.step.Stepped.{Stepped}
 use Rattle.machine.proofs.Lends.{Lends, lends-set, same-step, same-put}
 use Rattle.machine.proofs.Lent.{lends}
 use Rattle.machine.proofs.Written.{Put}
-use Rattle.claim.specs.Claim.{Values, reportOf, kindsOf, payloadsOf}
+use Rattle.claim.specs.Claim.{Values, reported, kindsLeft, payloadsLeft}
 
 -- ---- the run
 
@@ -105,10 +105,10 @@ run-same ws sks sps ks ps budget h k =
     rw (le-ltb (length ws) 0 (omega arith), h .well, k .well)
     (wide-run ks ps ws sks sps (datums sks sps) (lends sks sps (k .well) (k .words)) budget 0 0 ks ps (datums ks ps) (wide-values ks ps h))
 
-pub same-report : {ks₀ ps₀ : List ℕ} (o : Out) {q : _} {rs : List Datum} → Same ks₀ ps₀ o (end q rs) → reportOf o ≡ q
+pub same-report : {ks₀ ps₀ : List ℕ} (o : Out) {q : _} {rs : List Datum} → Same ks₀ ps₀ o (end q rs) → reported o ≡ q
 same-report (out r ks ps) h = h .match .0
 
-pub same-wide : {ks₀ ps₀ : List ℕ} (o : Out) {q : _} {rs : List Datum} → Same ks₀ ps₀ o (end q rs) → Wide ks₀ ps₀ (kindsOf o) (payloadsOf o) rs
+pub same-wide : {ks₀ ps₀ : List ℕ} (o : Out) {q : _} {rs : List Datum} → Same ks₀ ps₀ o (end q rs) → Wide ks₀ ps₀ (kindsLeft o) (payloadsLeft o) rs
 same-wide (out r ks ps) h = h .match .1
 
 -- ---- a value that is read back is the pair

@@ -1,4 +1,4 @@
--- Where the value of an accepted table stands, and that the frame has it. Assumes nothing.
+-- Where the value of an accepted table stands, and that the frame has it.
 use mathlib.Core.Path.{_≡_, refl, subst}
 use mathlib.Core.Bool.{Bool, true, false}
 use mathlib.Core.List.{List, []}
@@ -20,7 +20,7 @@ use Rattle.fold.specs.Opcodes.{threeOf}
 use Rattle.emit.specs.State.{State}
 use Rattle.claim.specs.Claim.{Accepted, Placed, homeOf, registerOf}
 use Rattle.claim.proofs.fragments.Frag.{Vf, ValueF, intF, arithF, frag}
-use Rattle.claim.proofs.Theorem.{DestLow, whole, made, checked, low-more, known}
+use Rattle.claim.proofs.Known.{DestLow, low-more, whole, made, checked, known}
 
 -- a fragment's register, and that it is below what the fragment reaches
 record At (n home : ℕ) (F : Vf) : Type 0 where

@@ -1,4 +1,4 @@
--- A jump list of half as many places as the table has nodes is enough: codegen's `enough`, said of compiling as a whole. Assumes nothing.
+-- A jump list of half as many places as the table has nodes is enough: codegen's `enough`, said of compiling as a whole.
 use mathlib.Core.Path.{_≡_, refl, sym, _∙_}
 use mathlib.Core.List.{List}
 use Prim.Native.Nat.{ℕ, zero, suc, _+_, _-_, _*_, _≤_}

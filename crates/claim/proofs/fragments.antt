@@ -4,7 +4,7 @@ pub mod Runs
 pub mod Sound
 pub mod Laws
 pub mod Trees
-pub mod Short
+pub mod Needs
 pub mod Fits
 pub mod Whole
 pub mod Open

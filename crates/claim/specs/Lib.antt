@@ -1,2 +1,6 @@
--- What is claimed of compiled tables and their runs.
+-- What is claimed of compiled tables and their runs: demand 3, what a compile is refused for, which opcodes it emits; and what `agree` cites.
 pub mod Claim
+pub mod Refusals
+pub mod Emitted
+pub mod Registers
+pub mod Entry

@@ -1,7 +1,7 @@
 // The listing: each word with its position, its name and its operands; a jump with the position that it goes to.
 use decode::Decoded;
-use operands::of_op::Parts;
-use operands::of_op::parts_of;
+use operands::of_op::PlainOp;
+use operands::of_op::plain_op;
 use print::Numbers;
 use print::say;
 use print::tell;
@@ -9,7 +9,7 @@ use print::tell_line;
 use print::two;
 
 // The 77 opcodes by their numbers: a name and its operands. A literal has `~`, a target `@`, the raw bits of a value `$`.
-fn say_parts(p: Parts, at: u64) {
+fn say_parts(p: PlainOp, at: u64) {
     let n = Numbers {
         a: p.a,
         b: p.b,
@@ -103,7 +103,7 @@ fn say_parts(p: Parts, at: u64) {
 
 fn say_decoded(d: Decoded, at: u64) {
     match d {
-        Decoded::Is(i) => say_parts(parts_of(i), at),
+        Decoded::Is(i) => say_parts(plain_op(i), at),
         Decoded::Bad => say(b"a word that does not decode"),
     }
 }

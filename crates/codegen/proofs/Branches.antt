@@ -6,7 +6,8 @@ use Prim.Native.Nat.{ℕ, _-_, _<_, _≤_}
 use native.Mathlib.Omega.{arith as numbers}
 use lib.Dec.{eqb}
 use lib.ListN.{length, take, drop}
-use Rattle.table.specs.Table.{kindAt, child1, child2, ChildIs}
+use Rattle.table.specs.Table.{kindAt, child1, child2}
+use Rattle.table.specs.Nodes.{ChildIs}
 use Rattle.table.specs.Tree.{Unary, minus, not′, Cmp, Binary, arith, cmp, and, or, Tree, unary, binaryKind, kindOf, tree}
 use Rattle.table.proofs.Trees.{View, is-leaf, is-unary, is-binary, is-ternary, UnaryAt, BinaryAt, view, unary-in, binary-in}
 use Rattle.table.proofs.Arities.{unary-code, binary-code, arith-codes, cmp-codes}

@@ -6,7 +6,7 @@ use Prim.Native.Nat.{ℕ, _+_, _-_, _<_, _≤_}
 use native.Mathlib.Omega.{arith}
 use lib.ListN.{length, take, drop, length-drop, length-append, drop-of-length-le}
 use lib.Seq.{length-take-le, take-at, drop-at}
-use Rattle.table.specs.Table.{ChildIs}
+use Rattle.table.specs.Nodes.{ChildIs}
 use Rattle.emit.specs.declared.state.St.{St}
 use Rattle.emit.specs.declared.state.Dst.the-variants.{Any}
 use Rattle.emit.specs.declared.state.Ans.{Ans}

@@ -14,7 +14,7 @@ use Rattle.fold.specs.Literal.{bits, runAt, runFrom, bitRun, litOf}
 use Rattle.fold.specs.Fold.{shiftBy, shiftedBy, foldBy}
 use Rattle.emit.specs.Steps.{leafD, putD, putTo, moveTo, constD, constTo}
 use Rattle.emit.specs.Jump.{leapTo, junctionTo, boolD, trueD, turnD}
-use Rattle.decode.specs.Patch.{patchOf, patchAll, aimWord, reachOf}
+use Rattle.decode.specs.Patch.{patchOf, patchAll, aimWord}
 use Rattle.codegen.specs.Gen.{gen, leafV, oneV, twoV, binaryV, intoD, condV, armsD, ternaryV, oneB, pairB, compareB, junctionB}
 use Rattle.insns.specs.declared.op.Op.{Op}
 use Rattle.insns.specs.declared.op.Cmp.the-variants as Jump
@@ -59,12 +59,12 @@ samples-1-3 : run (binary (arith add) a (int′ 5)) 1 ∷ run (binary (arith add
     ∷ done (1, state 2 2 (made (Op.LoadImm40 1 (record { raw = pos 131072 })) ∷ made (Op.Three Three.Add 1 0 1) ∷ []) [])
     ∷ done (2, state 3 3 (0x0000020001000033 ∷ 0x04000203 ∷ 0x0000000000000141 ∷ 0x08000203 ∷ []) [])
     ∷ []
-unfolding gen leafV oneV twoV binaryV intoD condV armsD ternaryV oneB pairB compareB junctionB leafD putD putTo leapTo moveTo junctionTo boolD trueD turnD constD constTo allocD destD slotD storeD patchedD leapD bits runAt runFrom bitRun litOf shiftBy shiftedBy foldBy patchOf patchAll aimWord reachOf decodeOf twos isRaw rawBits wordIf signed whole ifRaw
+unfolding gen leafV oneV twoV binaryV intoD condV armsD ternaryV oneB pairB compareB junctionB leafD putD putTo leapTo moveTo junctionTo boolD trueD turnD constD constTo allocD destD slotD storeD patchedD leapD bits runAt runFrom bitRun litOf shiftBy shiftedBy foldBy patchOf patchAll aimWord decodeOf twos isRaw rawBits wordIf signed whole ifRaw
 samples-1-3 = refl
 
 -- 5: a test 5 < a, jumping if false: jngt_imm16 on a, 5
 sample-5 : gen (binary (cmp lt) (int′ 5) a) .branch false 1 (start 1) ≡ done (0 ∷ [], state 1 1 (made (Op.JumpImm Jump.Ngt 0 (record { n = pos 5 }) (record { by = pos 0 })) ∷ []) [])
-unfolding gen leafV oneV twoV binaryV intoD condV armsD ternaryV oneB pairB compareB junctionB leafD putD putTo leapTo moveTo junctionTo boolD trueD turnD constD constTo allocD destD slotD storeD patchedD leapD bits runAt runFrom bitRun litOf shiftBy shiftedBy foldBy patchOf patchAll aimWord reachOf decodeOf twos isRaw rawBits wordIf signed whole ifRaw
+unfolding gen leafV oneV twoV binaryV intoD condV armsD ternaryV oneB pairB compareB junctionB leafD putD putTo leapTo moveTo junctionTo boolD trueD turnD constD constTo allocD destD slotD storeD patchedD leapD bits runAt runFrom bitRun litOf shiftBy shiftedBy foldBy patchOf patchAll aimWord decodeOf twos isRaw rawBits wordIf signed whole ifRaw
 sample-5 = refl
 
 -- 6: a & 0xFF0, a & 5; 7: a & 2^61 - 1, a & 2^61
@@ -74,7 +74,7 @@ samples-6-7 : run (binary (arith bitAnd) a (int′ 0xFF0)) 1 ∷ run (binary (ar
     ∷ done (1, state 2 2 (made (Op.BitAndMask 1 0 0 61) ∷ []) [])
     ∷ done (1, state 2 2 (made (Op.Slot Slot.LoadConst 1 0) ∷ made (Op.Three Three.BitAnd 1 0 1) ∷ []) (Val.int (pos (2 ^ 61)) ∷ []))
     ∷ []
-unfolding gen leafV oneV twoV binaryV intoD condV armsD ternaryV oneB pairB compareB junctionB leafD putD putTo leapTo moveTo junctionTo boolD trueD turnD constD constTo allocD destD slotD storeD patchedD leapD bits runAt runFrom bitRun litOf shiftBy shiftedBy foldBy patchOf patchAll aimWord reachOf decodeOf twos isRaw rawBits wordIf signed whole ifRaw
+unfolding gen leafV oneV twoV binaryV intoD condV armsD ternaryV oneB pairB compareB junctionB leafD putD putTo leapTo moveTo junctionTo boolD trueD turnD constD constTo allocD destD slotD storeD patchedD leapD bits runAt runFrom bitRun litOf shiftBy shiftedBy foldBy patchOf patchAll aimWord decodeOf twos isRaw rawBits wordIf signed whole ifRaw
 samples-6-7 = refl
 
 -- 8: 2^37 - 1 is immediate, 2^37 takes a slot
@@ -82,5 +82,5 @@ sample-8 : run (int′ (2 ^ 37 - 1)) 1 ∷ run (int′ (2 ^ 37)) 1 ∷ []
     ≡ done (1, state 2 2 (made (Op.LoadImm40 1 (record { raw = pos (2 ^ 39 - 4) })) ∷ []) [])
     ∷ done (1, state 2 2 (made (Op.Slot Slot.LoadConst 1 0) ∷ []) (Val.int (pos (2 ^ 37)) ∷ []))
     ∷ []
-unfolding gen leafV oneV twoV binaryV intoD condV armsD ternaryV oneB pairB compareB junctionB leafD putD putTo leapTo moveTo junctionTo boolD trueD turnD constD constTo allocD destD slotD storeD patchedD leapD bits runAt runFrom bitRun litOf shiftBy shiftedBy foldBy patchOf patchAll aimWord reachOf decodeOf twos isRaw rawBits wordIf signed whole ifRaw
+unfolding gen leafV oneV twoV binaryV intoD condV armsD ternaryV oneB pairB compareB junctionB leafD putD putTo leapTo moveTo junctionTo boolD trueD turnD constD constTo allocD destD slotD storeD patchedD leapD bits runAt runFrom bitRun litOf shiftBy shiftedBy foldBy patchOf patchAll aimWord decodeOf twos isRaw rawBits wordIf signed whole ifRaw
 sample-8 = refl

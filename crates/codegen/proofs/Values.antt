@@ -6,7 +6,8 @@ use Prim.Native.Nat.{ℕ, _-_, _<_, _≤_}
 use native.Mathlib.Omega.{arith as numbers}
 use lib.ListN.{length, take}
 use lib.Seq.{length-take-le}
-use Rattle.table.specs.Table.{kindAt, payloadAt, child1, child2, child3, ChildIs}
+use Rattle.table.specs.Table.{kindAt, payloadAt, child1, child2, child3}
+use Rattle.table.specs.Nodes.{ChildIs}
 use Rattle.table.specs.Tree.{Leaf, Arith, Binary, arith, cmp, and, or, Tree, leafKind, binaryKind, kindOf, tree}
 use Rattle.table.proofs.Trees.{BinaryAt, leaf-in, binary-in, ternary-in}
 use Rattle.table.proofs.Arities.{binary-code, arith-codes, cmp-codes}

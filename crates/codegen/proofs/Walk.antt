@@ -10,7 +10,8 @@ use lib.Dec.{leb, eqb, lit≤}
 use borrow.Author.Needs.{needs}
 use borrow.Author.Tests.{le-leb, lt-leb}
 use Rattle.faults.specs.Limits.{maxRegisters}
-use Rattle.table.specs.Table.{kindAt, depthAt, child1, nodeCount, Node, Child, Inner, ChildIs}
+use Rattle.table.specs.Table.{kindAt, depthAt, child1, nodeCount}
+use Rattle.table.specs.Nodes.{Node, Child, Inner, ChildIs}
 use Rattle.table.specs.Tree.{Unary, Cmp, cmp, Tree, tree}
 use Rattle.table.specs.Tree as Tree
 use Rattle.table.proofs.Trees.{View, is-leaf, is-unary, is-binary, is-ternary, view, unary-in}

@@ -5,7 +5,8 @@ use mathlib.Core.List.{List}
 use Prim.Native.Nat.{ℕ, _<_, _≤_}
 use lib.Dec.{eqb}
 use Rattle.faults.specs.Limits.{maxRegisters}
-use Rattle.table.specs.Table.{kindAt, Node}
+use Rattle.table.specs.Table.{kindAt}
+use Rattle.table.specs.Nodes.{Node}
 use Rattle.table.specs.Tree.{tree}
 use Rattle.emit.specs.declared.state.St.{St}
 use Rattle.emit.specs.declared.state.Dst.{Dst}

@@ -1,6 +1,6 @@
 // Compiles node tables into lent buffers, and writes what compiling answers and leaves; tools/oracle/README.md has the layout.
-ghost use Prim.Native.Nat.{_≤_};
 use compile::buffers::Compiled;
+use replay_io::within;
 use table::Dest;
 
 // Room for the largest record.
@@ -15,16 +15,6 @@ fn dest_of(d: u64) -> Dest {
         return Dest::None;
     }
     Dest::Reg(d - 1)
-}
-
-// n, or the room where that is less.
-fn within(n: u64, room: usize) -> usize
-    ensures { λ r. ⌜ r ≤ room ⌝ }
-{
-    if n < room as u64 {
-        return n as usize;
-    }
-    room
 }
 
 fn write_answer(c: Compiled) {

@@ -4,7 +4,8 @@ use Prim.Native.Nat.{ℕ, zero, suc, _+_, _-_, _≤_}
 use Rattle.faults.specs.Limits.{maxRegisters}
 use Rattle.table.specs.declared.Dest.{Dest}
 use Rattle.table.specs.declared.Dest.the-variants as D
-use Rattle.table.specs.Table.{nodeCount, tempBase, checkOf, Node}
+use Rattle.table.specs.Table.{nodeCount, tempBase, checkOf}
+use Rattle.table.specs.Nodes.{Node}
 use Rattle.table.specs.Tree.{Tree, tree}
 use Rattle.emit.specs.declared.state.Dst.{Dst}
 use Rattle.emit.specs.declared.state.Dst.the-variants.{Any, To}

@@ -1,4 +1,4 @@
--- Facts for the crates above: the operands of what decodes, and the word of what fits. Assumes nothing.
+-- Facts for the crates above: the operands of what decodes, and the word of what fits.
 use mathlib.Core.Path.{_≡_, refl, sym, ap, subst, _∙_}
 use mathlib.Core.Bool.{Bool, true, false, cond}
 use mathlib.Core.List.{List, [], _∷_}
@@ -10,7 +10,8 @@ use lib.IntN.{ℤ, pos, negsuc}
 use lib.Signed.{mag}
 use Rattle.insns.specs.Fields.{raw, pack, allFit, wordIf, rawBits}
 use Rattle.insns.specs.Bits.{twos, isRaw}
-use Rattle.insns.specs.Insns.{opOf, formOf, fieldsOf, madeOf}
+use Rattle.insns.specs.Insns.{formOf, fieldsOf, madeOf}
+use Rattle.insns.specs.Opcodes.{opOf}
 use Rattle.insns.specs.declared.Insn.{Insn}
 use Rattle.insns.specs.declared.Made.{Made}
 use Rattle.insns.specs.declared.op.Disp.{Disp}

@@ -3,4 +3,3 @@ pub mod Sign
 pub mod Table
 pub mod RoundTrip
 pub mod Facts
-pub mod Samples

@@ -1,4 +1,4 @@
--- The bits of a field read as a signed number, and as the machine holds it. Assumes nothing.
+-- The bits of a field read as a signed number, and as the machine holds it.
 use mathlib.Core.Path.{_≡_, refl, sym, ap, subst, _∙_}
 use mathlib.Core.Bool.{Bool, true, false, cond}
 use Prim.Native.Nat.{ℕ, suc, _+_, _*_, _-_, _≤_, _<_, _^_}

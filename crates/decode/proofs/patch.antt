@@ -2,4 +2,3 @@
 pub mod Aim
 pub mod Facts
 pub mod Field
-pub mod Samples

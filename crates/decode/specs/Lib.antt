@@ -1,4 +1,4 @@
 -- What the contracts of `decode` cite.
 pub mod Decode
-pub mod Field
 pub mod Patch
+pub mod Aim

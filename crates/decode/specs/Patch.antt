@@ -1,95 +1,69 @@
--- Patching: a branch word gets the displacement that leads from its position to a target. Assumes nothing.
-use Prim.Native.Nat.{ℕ, _^_}
-use mathlib.Core.Bool.{Bool, true, false, cond}
+-- Patching: the branch word at a position gets the displacement that leads to a target. Four tests in 01's order, 12, 10, 11, 8; one word is changed,
+-- or none.
+use Prim.Native.Nat.{ℕ}
+use mathlib.Core.Bool.{Bool, true, false, _||_, cond}
 use mathlib.Core.List.{List, [], _∷_}
 use lib.Dec.{ltb}
 use lib.IntN.{ℤ, pos, negsuc, _+ℤ_}
 use lib.ListN.{length, getD, set}
-use lib.Signed.{mag}
-use Rattle.faults.specs.Numbers.{noWord, undecoded, notBranch, tooFar}
-use Rattle.insns.specs.Insns.{madeOf}
+use Rattle.faults.specs.Numbers.{noWord, notBranch, tooFar}
+use Rattle.insns.specs.Fields.{Width, Operand, Operands, _▸_, fields, make}
+use Rattle.insns.specs.Insns.{widths, formOf, operandsOf}
+use Rattle.insns.specs.Opcodes.{opOf}
 use Rattle.insns.specs.declared.Made.{Made}
-use Rattle.insns.specs.declared.op.Disp.{Disp}
 use Rattle.insns.specs.declared.op.Op.{Op}
-use Rattle.decode.specs.Decode.{decodeOf}
+use Rattle.decode.specs.Decode.{decodeOf, decodedNumber}
 use Rattle.decode.specs.declared.Decoded.{Decoded}
-use Rattle.decode.specs.declared.patch.Reach.{Reach}
-use Rattle.decode.specs.declared.patch.Branch.{Branch}
-use Rattle.decode.specs.declared.patch.Branching.{Branching}
 use Rattle.decode.specs.declared.patch.Aimed.{Aimed}
 use Rattle.decode.specs.declared.patch.Patched.{Patched}
 
--- the number of each answer
-abbrev pub patchedNumber : Patched → ℕ
-patchedNumber Patched.Done = 0
-patchedNumber Patched.NoWord = noWord
-patchedNumber Patched.Undecoded = undecoded
-patchedNumber Patched.NotBranch = notBranch
-patchedNumber Patched.TooFar = tooFar
-
--- target minus position minus one: `negsuc at` is -(at + 1)
+-- target minus branch position minus one: `negsuc at` is -(at + 1)
 abbrev pub difference : ℕ → ℕ → ℤ
 difference at target = pos target +ℤ negsuc at
 
--- the displacement from a position to a target, if 32 bits hold it; `mag z` is n for z = n and for z = -(n + 1)
-unfoldable pub reachOf : ℕ → ℕ → Reach
-reachOf at target = cond (ltb (mag (difference at target)) (2 ^ 31)) (Reach.By (record { by = difference at target })) Reach.Far
+-- a branch is an instruction that declares a displacement
+abbrev pub isDisp : Width → Bool
+isDisp (Width.unsigned w) = false
+isDisp (Width.signed w) = false
+isDisp (Width.displacement w) = true
+isDisp Width.i40 = false
 
--- a branch without its displacement; any other instruction is no branch
-abbrev pub branchOf : Op → Branching
-branchOf (Op.Bare k) = Branching.No
-branchOf (Op.LoadImm40 dst imm) = Branching.No
-branchOf (Op.Two k dst src) = Branching.No
-branchOf (Op.Slot k dst slot) = Branching.No
-branchOf (Op.Three k dst a b) = Branching.No
-branchOf (Op.Shift k dst a shift) = Branching.No
-branchOf (Op.BitAndMask dst a lo len) = Branching.No
-branchOf (Op.RshiftMask dst a shift lo len) = Branching.No
-branchOf (Op.Arith k dst a imm) = Branching.No
-branchOf (Op.ClosNew dst fun num) = Branching.No
-branchOf (Op.ClosSet clos src idx) = Branching.No
-branchOf (Op.ClosGet dst idx) = Branching.No
-branchOf (Op.One k dst) = Branching.No
-branchOf (Op.Wide k dst val class) = Branching.No
-branchOf (Op.If k val disp) = Branching.Is (Branch.If k val)
-branchOf (Op.Jump k a b disp) = Branching.Is (Branch.Jump k a b)
-branchOf (Op.JumpImm k a imm disp) = Branching.Is (Branch.JumpImm k a imm)
-branchOf (Op.Jmp disp) = Branching.Is Branch.Jmp
-branchOf (Op.Call k start argc cache) = Branching.No
-branchOf (Op.CallHost host start argc) = Branching.No
-branchOf (Op.ById k fun start argc) = Branching.No
-branchOf (Op.CallMethodHost start argc tag cache) = Branching.No
-branchOf (Op.RetImm40 imm) = Branching.No
+abbrev pub hasDisp : List Width → Bool
+hasDisp [] = false
+hasDisp (w ∷ ws) = isDisp w || hasDisp ws
 
--- a branch with a displacement
-abbrev pub branchBy : Branch → Disp → Op
-branchBy (Branch.If k val) disp = Op.If k val disp
-branchBy (Branch.Jump k a b) disp = Op.Jump k a b disp
-branchBy (Branch.JumpImm k a imm) disp = Op.JumpImm k a imm disp
-branchBy Branch.Jmp disp = Op.Jmp disp
+abbrev pub isBranch : Op → Bool
+isBranch i = hasDisp (widths (formOf i))
 
--- a displacement that the branch's field does not hold is too far (8), and not 9
+-- operands with another displacement z, and the word of a branch with it
+abbrev pub orDisp : (w : Width) → Operand w → ℤ → Operand w
+orDisp (Width.unsigned w) v z = v
+orDisp (Width.signed w) v z = v
+orDisp (Width.displacement w) v z = z
+orDisp Width.i40 v z = v
+
+abbrev pub withDisp : (ws : List Width) → Operands ws → ℤ → Operands ws
+withDisp [] vs z = vs
+withDisp (w ∷ ws) vs z = orDisp w (vs .0) z ▸ withDisp ws (vs .1) z
+
+abbrev pub madeWith : Op → ℤ → Made
+madeWith i z = make (opOf (formOf i)) (fields (widths (formOf i)) (withDisp (widths (formOf i)) (operandsOf i) z))
+
+-- the field does not hold the displacement (8, where a constructor gives 9)
 abbrev pub aimedMade : Made → Aimed
 aimedMade (Made.Fits w) = Aimed.To (w .bits)
 aimedMade Made.Refused = Aimed.TooFar
 
-abbrev pub aimedReach : Branch → Reach → Aimed
-aimedReach b (Reach.By disp) = aimedMade (madeOf (branchBy b disp))
-aimedReach b Reach.Far = Aimed.TooFar
+-- the word does not decode (10); it is no branch (11)
+abbrev pub aimedDecoded : Decoded → ℤ → Aimed
+aimedDecoded (Decoded.Is i) z = cond (isBranch i) (aimedMade (madeWith i z)) Aimed.NotBranch
+aimedDecoded Decoded.Bad z = Aimed.Undecoded
 
-abbrev pub aimedBranching : Branching → Reach → Aimed
-aimedBranching (Branching.Is b) r = aimedReach b r
-aimedBranching Branching.No r = Aimed.NotBranch
-
-abbrev pub aimedDecoded : Decoded → Reach → Aimed
-aimedDecoded (Decoded.Is i) r = aimedBranching (branchOf i) r
-aimedDecoded Decoded.Bad r = Aimed.Undecoded
-
--- the word w, which stands at a position, aimed at a target: 10, then 11, then 8, or the new word
+-- the word w, which stands at a position, aimed at a target
 unfoldable pub aimWord : ℕ → ℕ → ℕ → Aimed
-aimWord w at target = aimedDecoded (decodeOf w) (reachOf at target)
+aimWord w at target = aimedDecoded (decodeOf w) (difference at target)
 
--- what patching answers, and the words that it leaves: one is changed, or none
+-- what patching answers, and the words that it leaves
 pub record Patching : Type 0 where
   pub answer : Patched
   pub words : List ℕ
@@ -100,9 +74,17 @@ putAimed Aimed.Undecoded ws at = record { answer = Patched.Undecoded; words = ws
 putAimed Aimed.NotBranch ws at = record { answer = Patched.NotBranch; words = ws }
 putAimed Aimed.TooFar ws at = record { answer = Patched.TooFar; words = ws }
 
--- the word at a position aimed at a target; where there is none, 12
+-- the word at a position aimed at a target; there is none (12)
 unfoldable pub patchOf : List ℕ → ℕ → ℕ → Patching
 patchOf ws at target = cond (ltb at (length ws)) (putAimed (aimWord (getD ws at 0) at target) ws at) (record { answer = Patched.NoWord; words = ws })
+
+-- the number of each answer
+abbrev pub patchedNumber : Patched → ℕ
+patchedNumber Patched.Done = 0
+patchedNumber Patched.NoWord = noWord
+patchedNumber Patched.Undecoded = decodedNumber Decoded.Bad
+patchedNumber Patched.NotBranch = notBranch
+patchedNumber Patched.TooFar = tooFar
 
 abbrev pub isDone : Patched → Bool
 isDone Patched.Done = true

@@ -4,6 +4,11 @@ use crate::decode;
 use insns::Insn;
 use insns::bits::magnitude;
 use insns::bits::signed_bits;
+use insns::fields::HALF_24;
+use insns::fields::HALF_32;
+use insns::fields::SIZE_16;
+use insns::fields::SIZE_32;
+use insns::fields::SIZE_OPCODE;
 use insns::op::Cmp;
 use insns::op::Disp;
 use insns::op::Imm16;
@@ -11,27 +16,31 @@ use insns::op::Sense;
 ghost use mathlib.Core.Path.{_≡_};
 ghost use Prim.Native.Nat.{_%_, _<_, _≤_, _^_};
 ghost use Rattle.decode.specs.Decode.{decodeOf};
-ghost use Rattle.decode.specs.Field.{Place, aimField, unaimed};
-ghost use Rattle.decode.specs.Patch.{reachOf, aimedDecoded, aimWord, patchOf, isDone, patchAll};
+ghost use Rattle.decode.specs.Patch.{aimWord, patchOf, patchedNumber, isDone, patchAll};
+ghost use Rattle.decode.specs.Aim.{reachOf, aimedBy, unaimed, Place, aimField};
+
+// What one of the displacement's field is worth in the word: above the opcode, above one register, above two operands.
+const AFTER_OPCODE: u64 = SIZE_OPCODE;
+
+const AFTER_ONE: u64 = SIZE_OPCODE * SIZE_16;
+
+const AFTER_TWO: u64 = SIZE_OPCODE * SIZE_16 * SIZE_16;
+
+// A target from here on is too far from every position in a slice; below it the difference is an i64.
+const FAR_TARGET: u64 = 1 << 62;
 
 // A displacement, if 32 bits hold it.
-pub enum Reach {
+enum Reach {
     By(Disp),
     Far,
 }
 
-// A branch without its displacement.
+// A branch without its displacement, as the proofs speak of it: the code changes a branch word as a number.
 pub enum Branch {
     If(Sense, u16),
     Jump(Cmp, u16, u16),
     JumpImm(Cmp, u16, Imm16),
     Jmp,
-}
-
-// Whether an instruction is a branch, and which.
-pub enum Branching {
-    Is(Branch),
-    No,
 }
 
 // A branch word with its new displacement, or why there is none.
@@ -51,12 +60,25 @@ pub enum Patched {
     TooFar,
 }
 
-// target - at - 1, if 32 bits hold it. A target of 2^62 or more is too far from every position in a slice.
+// The number of an answer.
+pub fn number_of(answer: Patched) -> u8
+    ensures { λ r. ⌜ r ≡ patchedNumber answer ⌝ }
+{
+    match answer {
+        Patched::Done => faults::NONE,
+        Patched::NoWord => faults::NO_WORD,
+        Patched::Undecoded => faults::UNDECODED,
+        Patched::NotBranch => faults::NOT_BRANCH,
+        Patched::TooFar => faults::TOO_FAR,
+    }
+}
+
+// target - at - 1, if 32 bits hold it.
 fn displacement(at: u64, target: u64) -> Reach
     requires { ⌜ at < 2 ^ 61 ⌝ }
     ensures { λ r. ⌜ r ≡ reachOf at target ⌝ }
 {
-    if 4611686018427387904 <= target {
+    if FAR_TARGET <= target {
         return Reach::Far;
     }
     let d = (target as i64) - ((at + 1) as i64);
@@ -65,18 +87,6 @@ fn displacement(at: u64, target: u64) -> Reach
     }
     Reach::Far
 }
-
-// The displacements that the two fields hold: -HALF to HALF - 1 of each.
-const HALF_24: u64 = 8388608;
-
-const HALF_32: u64 = 2147483648;
-
-// What one of the displacement's field is worth in the word: above the opcode, above one register, above two operands.
-const AFTER_OPCODE: u64 = 256;
-
-const AFTER_ONE: u64 = 16777216;
-
-const AFTER_TWO: u64 = 1099511627776;
 
 // The word of a branch whose bits below the displacement's field are `low`. A displacement that the field does not hold is too far too.
 fn aim_field(low: u64, place: u64, half: u64, r: Reach) -> Aimed
@@ -96,11 +106,11 @@ fn aim_field(low: u64, place: u64, half: u64, r: Reach) -> Aimed
 // A word of a branch's opcode: it decodes where nothing stands above its fields.
 fn aim_branch(w: u64, r: Reach) -> Aimed
     requires { ⌜ (43 ≤ w % 256) × (w % 256 ≤ 65) ⌝ }
-    ensures { λ a. ⌜ a ≡ aimedDecoded (decodeOf w) r ⌝ }
+    ensures { λ a. ⌜ a ≡ aimedBy (decodeOf w) r ⌝ }
 {
-    let op = (w % 256) as u8;
+    let op = (w % SIZE_OPCODE) as u8;
     if op <= Insn::IF_FALSE {
-        if w / AFTER_ONE < 2 * HALF_32 {
+        if w / AFTER_ONE < SIZE_32 {
             return aim_field(w % AFTER_ONE, AFTER_ONE, HALF_32, r);
         }
         return Aimed::Undecoded;
@@ -108,7 +118,7 @@ fn aim_branch(w: u64, r: Reach) -> Aimed
     if op <= Insn::JNGE_IMM16 {
         return aim_field(w % AFTER_TWO, AFTER_TWO, HALF_24, r);
     }
-    if w / AFTER_OPCODE < 2 * HALF_32 {
+    if w / AFTER_OPCODE < SIZE_32 {
         return aim_field(w % AFTER_OPCODE, AFTER_OPCODE, HALF_32, r);
     }
     Aimed::Undecoded
@@ -129,7 +139,7 @@ fn aim_word(w: u64, at: u64, target: u64) -> Aimed
     requires { ⌜ at < 2 ^ 61 ⌝ }
     ensures { λ r. ⌜ r ≡ aimWord w at target ⌝ }
 {
-    let op = (w % 256) as u8;
+    let op = (w % SIZE_OPCODE) as u8;
     if op < Insn::IF_TRUE {
         return no_branch(w);
     }
@@ -157,7 +167,7 @@ pub fn patch(words: &mut [u64], at: usize, target: u64) -> Patched
     }
 }
 
-pub fn is_done(answer: Patched) -> bool
+fn is_done(answer: Patched) -> bool
     ensures { λ r. ⌜ r ≡ isDone answer ⌝ }
 {
     match answer {
@@ -172,7 +182,8 @@ pub fn is_done(answer: Patched) -> bool
 // Aims the branches at a list of positions, from the first to the last, at one target. One that fails stops it: those before it stay patched, it
 // and those after it are as they were.
 pub fn patch_jumps(words: &mut [u64], jumps: &[u64], target: u64) -> Patched
-    ensures { λ r. ⌜ (r ≡ patchAll (now (words .entry)) (now (jumps .entry)) target .answer) × (now (words .exit) ≡ patchAll (now (words .entry)) (now (jumps .entry)) target .words) ⌝ }
+    ensures { λ r. ⌜ (r ≡ patchAll (now (words .entry)) (now (jumps .entry)) target .answer)
+        × (now (words .exit) ≡ patchAll (now (words .entry)) (now (jumps .entry)) target .words) ⌝ }
 {
     let mut i = 0;
     while i < jumps.len() {

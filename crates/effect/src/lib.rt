@@ -1,4 +1,5 @@
-// What one instruction asks for. Nothing is written here: an effect is carried out by the step, in the crate `machine`.
+// What one instruction asks for. It only reads: the step, in the crate `machine`, carries an effect out, so that one place writes and
+// a step that stops has written nothing.
 use insns::op::Arith;
 use insns::op::Bare;
 use insns::op::Cmp;
@@ -18,11 +19,14 @@ use value::answer::Answer;
 use value::from_pair;
 ghost use mathlib.Core.Path.{_≡_};
 ghost use lib.IntN.{pos};
-ghost use Rattle.value.specs.Answer.{resultOf, is};
+ghost use Rattle.value.specs.Answer.{resultOf};
+ghost use Rattle.insns.specs.declared.op.Op.{Op};
 ghost use Rattle.effect.specs.Effect as Fx;
-ghost use Rattle.effect.specs.Effect.{asked, held};
+ghost use Rattle.effect.specs.Effect.{held};
+ghost use Rattle.effect.specs.Forms as Forms;
+ghost use Rattle.effect.specs.Forms.{asked, OfRegisters, OfSlots, OfAny};
 
-// An answer for a register, an answer to branch by, the next word, or a stop.
+// An answer for a register, a displacement with an answer to branch by, the next word, or a stop with its number.
 pub enum Effect {
     Write(u16, Answer),
     Branch(Disp, Answer),
@@ -30,7 +34,7 @@ pub enum Effect {
     Halt(u8),
 }
 
-// Of two lent slices the shorter counts.
+// Registers and slots are lent as kinds and payloads; the shorter slice counts.
 pub fn room(kinds: &[u8], payloads: &[u64]) -> usize
     ensures { λ r. ⌜ r ≡ Fx.size (now (kinds .entry)) (now (payloads .entry)) ⌝ }
 {
@@ -41,7 +45,7 @@ pub fn room(kinds: &[u8], payloads: &[u64]) -> usize
 }
 
 fn of_lent(l: Lent) -> Answer
-    ensures { λ r. ⌜ resultOf r ≡ Fx.ofLent l ⌝ }
+    ensures { λ r. ⌜ resultOf r ≡ Forms.ofLent l ⌝ }
 {
     match l {
         Lent::Well(v) => Answer::Is(v),
@@ -50,7 +54,7 @@ fn of_lent(l: Lent) -> Answer
 }
 
 // A register or a slot.
-pub fn read(kinds: &[u8], payloads: &[u64], r: usize) -> Answer
+fn read(kinds: &[u8], payloads: &[u64], r: usize) -> Answer
     ensures { λ a. ⌜ resultOf a ≡ held (now (kinds .entry)) (now (payloads .entry)) r ⌝ }
 {
     if room(kinds, payloads) <= r {
@@ -59,7 +63,7 @@ pub fn read(kinds: &[u8], payloads: &[u64], r: usize) -> Answer
     of_lent(from_pair(kinds[r], payloads[r]))
 }
 
-// An operator on what was read: the first fault counts.
+// The operator of a node kind on what was read. Left before right: the first fault counts.
 fn both(kind: u64, x: Answer, y: Answer) -> Answer
     ensures { λ r. ⌜ resultOf r ≡ Fx.both kind (resultOf x) (resultOf y) ⌝ }
 {
@@ -78,6 +82,7 @@ fn literal(z: i64) -> Answer
     Answer::Is(Value::Int(z))
 }
 
+// A shift amount: it is a count of bits, so never negative.
 fn count(n: u8) -> Answer
     ensures { λ r. ⌜ resultOf r ≡ Fx.literal (pos n) ⌝ }
 {
@@ -97,6 +102,7 @@ fn mask(lo: u8, len: u8) -> Answer
     literal(int64::sign::signed(int64::mask::mask(lo as u64, len as u64)))
 }
 
+// Only raw bits of a value decode, so what is not Nil, False or True is an Int, shifted up by its tag of two bits.
 fn raw(z: Imm40) -> Answer
     ensures { λ r. ⌜ resultOf r ≡ Fx.rawOf (z .raw) ⌝ }
 {
@@ -120,8 +126,8 @@ fn inverted(r: Answer) -> Answer
     ops::not::negated(r)
 }
 
-fn sense(k: Sense, r: Answer) -> Answer
-    ensures { λ a. ⌜ resultOf a ≡ Fx.senseOf k (resultOf r) ⌝ }
+fn if_test(k: Sense, r: Answer) -> Answer
+    ensures { λ a. ⌜ resultOf a ≡ Forms.ifTest k (resultOf r) ⌝ }
 {
     match k {
         Sense::Yes => r,
@@ -129,63 +135,65 @@ fn sense(k: Sense, r: Answer) -> Answer
     }
 }
 
+// The node kind of an operator; 0 is not run here.
 pub fn three_kind(k: Three) -> u64
-    ensures { λ r. ⌜ r ≡ Fx.threeKind k ⌝ }
+    ensures { λ r. ⌜ r ≡ Forms.threeKind k ⌝ }
 {
     match k {
-        Three::BitAnd => 8,
-        Three::BitOr => 9,
-        Three::BitXor => 10,
-        Three::Lshift => 11,
-        Three::Rshift => 12,
-        Three::Add => 13,
-        Three::Sub => 14,
-        Three::Mul => 15,
-        Three::Div => 16,
-        Three::Modulo => 17,
+        Three::BitAnd => table::BIT_AND,
+        Three::BitOr => table::BIT_OR,
+        Three::BitXor => table::BIT_XOR,
+        Three::Lshift => table::LSHIFT,
+        Three::Rshift => table::RSHIFT,
+        Three::Add => table::ADD,
+        Three::Sub => table::SUB,
+        Three::Mul => table::MUL,
+        Three::Div => table::DIV,
+        Three::Modulo => table::MOD,
         Three::GetIndex => 0,
         Three::SetIndex => 0,
     }
 }
 
 pub fn arith_kind(k: Arith) -> u64
-    ensures { λ r. ⌜ r ≡ Fx.arithKind k ⌝ }
+    ensures { λ r. ⌜ r ≡ Forms.arithKind k ⌝ }
 {
     match k {
-        Arith::Plus => 13,
-        Arith::Minus => 14,
-        Arith::Times => 15,
+        Arith::Plus => table::ADD,
+        Arith::Minus => table::SUB,
+        Arith::Times => table::MUL,
     }
 }
 
 fn shift_kind(k: Shift) -> u64
-    ensures { λ r. ⌜ r ≡ Fx.shiftKind k ⌝ }
+    ensures { λ r. ⌜ r ≡ Forms.shiftKind k ⌝ }
 {
     match k {
-        Shift::Left => 11,
-        Shift::Right => 12,
+        Shift::Left => table::LSHIFT,
+        Shift::Right => table::RSHIFT,
     }
 }
 
-fn compare(k: Cmp, x: Answer, y: Answer) -> Answer
-    ensures { λ r. ⌜ resultOf r ≡ Fx.compare k (resultOf x) (resultOf y) ⌝ }
+// `jnlt` jumps where `jlt` does not. It is not `jge`: of a NaN neither holds.
+fn jump_test(k: Cmp, x: Answer, y: Answer) -> Answer
+    ensures { λ r. ⌜ resultOf r ≡ Forms.jumpTest k (resultOf x) (resultOf y) ⌝ }
 {
     match k {
-        Cmp::Eq => both(18, x, y),
-        Cmp::Ne => both(19, x, y),
-        Cmp::Lt => both(20, x, y),
-        Cmp::Le => both(21, x, y),
-        Cmp::Gt => both(22, x, y),
-        Cmp::Ge => both(23, x, y),
-        Cmp::Nlt => inverted(both(20, x, y)),
-        Cmp::Nle => inverted(both(21, x, y)),
-        Cmp::Ngt => inverted(both(22, x, y)),
-        Cmp::Nge => inverted(both(23, x, y)),
+        Cmp::Eq => both(table::EQ, x, y),
+        Cmp::Ne => both(table::NE, x, y),
+        Cmp::Lt => both(table::LT, x, y),
+        Cmp::Le => both(table::LE, x, y),
+        Cmp::Gt => both(table::GT, x, y),
+        Cmp::Ge => both(table::GE, x, y),
+        Cmp::Nlt => inverted(both(table::LT, x, y)),
+        Cmp::Nle => inverted(both(table::LE, x, y)),
+        Cmp::Ngt => inverted(both(table::GT, x, y)),
+        Cmp::Nge => inverted(both(table::GE, x, y)),
     }
 }
 
 fn bare(k: Bare) -> Effect
-    ensures { λ r. ⌜ asked r ≡ Fx.bareOf k ⌝ }
+    ensures { λ r. ⌜ OfAny (Op.Bare k) (asked r) ⌝ }
 {
     match k {
         Bare::Panic => Effect::Halt(faults::PANIC_WORD),
@@ -195,13 +203,13 @@ fn bare(k: Bare) -> Effect
 }
 
 fn load_imm40(d: u16, z: Imm40) -> Effect
-    ensures { λ r. ⌜ asked r ≡ Fx.write d (Fx.rawOf (z .raw)) ⌝ }
+    ensures { λ r. ⌜ OfAny (Op.LoadImm40 d z) (asked r) ⌝ }
 {
     Effect::Write(d, raw(z))
 }
 
 fn two(k: Two, d: u16, a: u16, kinds: &[u8], payloads: &[u64]) -> Effect
-    ensures { λ r. ⌜ asked r ≡ Fx.twoOf (held (now (kinds .entry)) (now (payloads .entry))) k d a ⌝ }
+    ensures { λ r. ⌜ OfRegisters (held (now (kinds .entry)) (now (payloads .entry))) (Op.Two k d a) (asked r) ⌝ }
 {
     match k {
         Two::Mov => Effect::Write(d, read(kinds, payloads, a as usize)),
@@ -215,7 +223,7 @@ fn two(k: Two, d: u16, a: u16, kinds: &[u8], payloads: &[u64]) -> Effect
 }
 
 fn slot(k: Slot, d: u16, s: u32, slot_kinds: &[u8], slot_payloads: &[u64]) -> Effect
-    ensures { λ r. ⌜ asked r ≡ Fx.slotOf (held (now («slot_kinds» .entry)) (now («slot_payloads» .entry))) k d s ⌝ }
+    ensures { λ r. ⌜ OfSlots (held (now («slot_kinds» .entry)) (now («slot_payloads» .entry))) (Op.Slot k d s) (asked r) ⌝ }
 {
     match k {
         Slot::LoadConst => Effect::Write(d, read(slot_kinds, slot_payloads, s as usize)),
@@ -226,7 +234,7 @@ fn slot(k: Slot, d: u16, s: u32, slot_kinds: &[u8], slot_payloads: &[u64]) -> Ef
 }
 
 fn three(k: Three, d: u16, a: u16, b: u16, kinds: &[u8], payloads: &[u64]) -> Effect
-    ensures { λ r. ⌜ asked r ≡ Fx.threeOf (held (now (kinds .entry)) (now (payloads .entry))) k d a b ⌝ }
+    ensures { λ r. ⌜ OfRegisters (held (now (kinds .entry)) (now (payloads .entry))) (Op.Three k d a b) (asked r) ⌝ }
 {
     let kind = three_kind(k);
     if kind == 0 {
@@ -238,58 +246,58 @@ fn three(k: Three, d: u16, a: u16, b: u16, kinds: &[u8], payloads: &[u64]) -> Ef
 }
 
 fn shift(k: Shift, d: u16, a: u16, n: u8, kinds: &[u8], payloads: &[u64]) -> Effect
-    ensures { λ r. ⌜ asked r ≡ Fx.shiftOf (held (now (kinds .entry)) (now (payloads .entry))) k d a n ⌝ }
+    ensures { λ r. ⌜ OfRegisters (held (now (kinds .entry)) (now (payloads .entry))) (Op.Shift k d a n) (asked r) ⌝ }
 {
     let x = read(kinds, payloads, a as usize);
     Effect::Write(d, both(shift_kind(k), x, count(n)))
 }
 
 fn bit_and_mask(d: u16, a: u16, lo: u8, len: u8, kinds: &[u8], payloads: &[u64]) -> Effect
-    ensures { λ r. ⌜ asked r ≡ Fx.andMaskOf (held (now (kinds .entry)) (now (payloads .entry))) d a lo len ⌝ }
+    ensures { λ r. ⌜ OfRegisters (held (now (kinds .entry)) (now (payloads .entry))) (Op.BitAndMask d a lo len) (asked r) ⌝ }
 {
     let x = read(kinds, payloads, a as usize);
-    Effect::Write(d, both(8, x, mask(lo, len)))
+    Effect::Write(d, both(table::BIT_AND, x, mask(lo, len)))
 }
 
 fn rshift_mask(d: u16, a: u16, n: u8, lo: u8, len: u8, kinds: &[u8], payloads: &[u64]) -> Effect
-    ensures { λ r. ⌜ asked r ≡ Fx.rshiftMaskOf (held (now (kinds .entry)) (now (payloads .entry))) d a n lo len ⌝ }
+    ensures { λ r. ⌜ OfRegisters (held (now (kinds .entry)) (now (payloads .entry))) (Op.RshiftMask d a n lo len) (asked r) ⌝ }
 {
     let x = read(kinds, payloads, a as usize);
-    let y = both(12, x, count(n));
-    Effect::Write(d, both(8, y, mask(lo, len)))
+    let y = both(table::RSHIFT, x, count(n));
+    Effect::Write(d, both(table::BIT_AND, y, mask(lo, len)))
 }
 
 fn arith(k: Arith, d: u16, a: u16, z: Imm16, kinds: &[u8], payloads: &[u64]) -> Effect
-    ensures { λ r. ⌜ asked r ≡ Fx.arithOf (held (now (kinds .entry)) (now (payloads .entry))) k d a (z .n) ⌝ }
+    ensures { λ r. ⌜ OfRegisters (held (now (kinds .entry)) (now (payloads .entry))) (Op.Arith k d a z) (asked r) ⌝ }
 {
     let x = read(kinds, payloads, a as usize);
     Effect::Write(d, both(arith_kind(k), x, literal16(z)))
 }
 
 fn if_bool(k: Sense, a: u16, z: Disp, kinds: &[u8], payloads: &[u64]) -> Effect
-    ensures { λ r. ⌜ asked r ≡ Fx.ifOf (held (now (kinds .entry)) (now (payloads .entry))) k a (z .by) ⌝ }
+    ensures { λ r. ⌜ OfRegisters (held (now (kinds .entry)) (now (payloads .entry))) (Op.If k a z) (asked r) ⌝ }
 {
     let x = read(kinds, payloads, a as usize);
-    Effect::Branch(z, sense(k, x))
+    Effect::Branch(z, if_test(k, x))
 }
 
 fn jump(k: Cmp, a: u16, b: u16, z: Disp, kinds: &[u8], payloads: &[u64]) -> Effect
-    ensures { λ r. ⌜ asked r ≡ Fx.jumpOf (held (now (kinds .entry)) (now (payloads .entry))) k a b (z .by) ⌝ }
+    ensures { λ r. ⌜ OfRegisters (held (now (kinds .entry)) (now (payloads .entry))) (Op.Jump k a b z) (asked r) ⌝ }
 {
     let x = read(kinds, payloads, a as usize);
     let y = read(kinds, payloads, b as usize);
-    Effect::Branch(z, compare(k, x, y))
+    Effect::Branch(z, jump_test(k, x, y))
 }
 
 fn jump_imm(k: Cmp, a: u16, n: Imm16, z: Disp, kinds: &[u8], payloads: &[u64]) -> Effect
-    ensures { λ r. ⌜ asked r ≡ Fx.jumpImmOf (held (now (kinds .entry)) (now (payloads .entry))) k a (n .n) (z .by) ⌝ }
+    ensures { λ r. ⌜ OfRegisters (held (now (kinds .entry)) (now (payloads .entry))) (Op.JumpImm k a n z) (asked r) ⌝ }
 {
     let x = read(kinds, payloads, a as usize);
-    Effect::Branch(z, compare(k, x, literal16(n)))
+    Effect::Branch(z, jump_test(k, x, literal16(n)))
 }
 
 fn jmp(z: Disp) -> Effect
-    ensures { λ r. ⌜ asked r ≡ Fx.jmpOf (z .by) ⌝ }
+    ensures { λ r. ⌜ OfAny (Op.Jmp z) (asked r) ⌝ }
 {
     Effect::Branch(z, Answer::Is(Value::Bool(true)))
 }
@@ -301,7 +309,8 @@ pub fn effect_of(
     slot_kinds: &[u8],
     slot_payloads: &[u64],
 ) -> Effect
-    ensures { λ r. ⌜ asked r ≡ Fx.effectOf (held (now (kinds .entry)) (now (payloads .entry))) (held (now («slot_kinds» .entry)) (now («slot_payloads» .entry))) i ⌝ }
+    ensures { λ r. ⌜ asked r
+        ≡ Fx.effectOf (held (now (kinds .entry)) (now (payloads .entry))) (held (now («slot_kinds» .entry)) (now («slot_payloads» .entry))) i ⌝ }
 {
     match i {
         Op::Bare(k) => bare(k),

@@ -19,7 +19,8 @@ use Rattle.insns.specs.declared.op.Two.the-variants as Two
 use Rattle.insns.specs.declared.op.Three.{Three}
 use Rattle.insns.specs.declared.op.Shift.{Shift}
 use Rattle.insns.specs.Fields.{make, u}
-use Rattle.insns.specs.Insns.{madeOf, threeOp, shiftOp}
+use Rattle.insns.specs.Insns.{madeOf}
+use Rattle.insns.specs.Opcodes.{threeOp, shiftOp}
 use Rattle.emit.specs.declared.state.St.{St}
 use Rattle.emit.specs.declared.state.Dst.{Dst}
 use Rattle.emit.specs.declared.state.Dst.the-variants.{Any, To}

@@ -9,7 +9,8 @@ use lib.ListN.{length, take, getD}
 use mir.Syntax.{w64}
 use mir.Val.{toZ}
 use Rattle.faults.specs.Limits.{maxRegisters}
-use Rattle.table.specs.Table.{nodeCount, kindAt, payloadAt, Node}
+use Rattle.table.specs.Table.{nodeCount, kindAt, payloadAt}
+use Rattle.table.specs.Nodes.{Node}
 use Rattle.value.specs.Value.{Datum}
 use Rattle.value.specs.Value as Val
 use Rattle.emit.specs.declared.state.St.{St}

@@ -7,6 +7,7 @@ use crate::word::RAW_TRUE;
 use crate::word::emit;
 use crate::word::emit_load;
 use decode::patch::Patched;
+use decode::patch::number_of;
 use fold::How;
 use insns::Made;
 use insns::op::Cmp;
@@ -15,7 +16,6 @@ ghost use mathlib.Core.Path.{_≡_};
 ghost use Prim.Native.Nat.{_+_, _≤_};
 ghost use lib.ListN.{length, take, drop};
 ghost use Rattle.insns.specs.Insns.{madeOf};
-ghost use Rattle.decode.specs.Patch.{patchedNumber};
 ghost use Rattle.emit.specs.State.{emitD};
 ghost use Rattle.emit.specs.Read.{Steps, After};
 ghost use Rattle.emit.specs.Jump.{jmpOp, leapD, patchD, patchesD, howOp, oneTo, pairTo, turnD, trueD, boolD};
@@ -78,18 +78,6 @@ pub fn jump_pair(code: &mut [u64], jumps: &mut [u64], cmp: Cmp, a: u16, top: u16
     match y {
         Ans::Got(b, s) => jump(code, jumps, crate::build::jump(cmp, a, b), free_to(s, top)),
         Ans::No(f) => Jumps::No(f),
-    }
-}
-
-fn number_of(p: Patched) -> u8
-    ensures { λ r. ⌜ r ≡ patchedNumber p ⌝ }
-{
-    match p {
-        Patched::Done => faults::NONE,
-        Patched::NoWord => faults::NO_WORD,
-        Patched::Undecoded => faults::UNDECODED,
-        Patched::NotBranch => faults::NOT_BRANCH,
-        Patched::TooFar => faults::TOO_FAR,
     }
 }
 

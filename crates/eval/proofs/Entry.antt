@@ -1,4 +1,4 @@
--- What `evaluate` has to show at each of its returns and calls. Assumes nothing.
+-- What `evaluate` has to show at each of its returns and calls.
 use mathlib.Core.Path.{_≡_, refl, sym, _∙_, ap}
 use mathlib.Core.Bool.{Bool, true, false, not}
 use mathlib.Core.List.{List}
@@ -11,7 +11,8 @@ use borrow.Author.Tests.{lt-ltb, le-ltb}
 use Rattle.faults.specs.Faults.{fault, _or-else_}
 use Rattle.faults.specs.Numbers.{outOfRange, illFormed}
 use Rattle.faults.proofs.Faults.{second, stop}
-use Rattle.table.specs.Table.{nodeCount, checkOf, Node}
+use Rattle.table.specs.Table.{nodeCount, checkOf}
+use Rattle.table.specs.Nodes.{Node}
 use Rattle.table.specs.Tree.{tree}
 use Rattle.table.specs.declared.Dest.the-variants.{None}
 use Rattle.table.specs.Accepted.{Accepted}

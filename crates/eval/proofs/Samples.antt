@@ -1,4 +1,4 @@
--- Samples of meaning, computed from the definitions alone. Assumes nothing.
+-- Samples of meaning, computed from the definitions alone.
 use mathlib.Core.Path.{_≡_, refl}
 use mathlib.Core.Bool.{true, false}
 use mathlib.Core.List.{[], _∷_}

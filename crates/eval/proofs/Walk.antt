@@ -1,5 +1,4 @@
 -- The answer of a node from its children's, as the code puts it together, is the meaning of its tree. `search walks` answers `eval_node`.
--- Assumes nothing.
 use mathlib.Core.Path.{_≡_, refl, sym, _∙_, ap, subst}
 use mathlib.Core.Bool.{Bool, true, false, cond}
 use mathlib.Core.List.{List}
@@ -7,7 +6,8 @@ use Prim.Native.Nat.{ℕ, _≤_, _<_}
 use native.Mathlib.Omega.{arith}
 use lib.Dec.{eqb}
 use lib.ListN.{length, getD}
-use Rattle.table.specs.Table.{kindAt, payloadAt, depthAt, child1, child2, child3, Node, Child, ChildIs}
+use Rattle.table.specs.Table.{kindAt, payloadAt, depthAt, child1, child2, child3}
+use Rattle.table.specs.Nodes.{Node, Child, ChildIs}
 use Rattle.table.specs.Tree as T
 use Rattle.table.specs.Tree.{Leaf, Unary, Arith, Cmp, Binary, Tree, Kind, leafKind, unaryKind, binaryKind, ternaryKind, noKind, kindOf, tree, unaryCode, arithCode, cmpCode, binaryCode}
 use Rattle.table.proofs.Arities.{at-kind, leaf-le, unary-code, binary-code, ternary-code, unary-codes, arith-codes, cmp-codes}
@@ -15,7 +15,6 @@ use Rattle.table.proofs.Nodes.{ok}
 use Rattle.table.proofs.Trees.{UnaryAt, BinaryAt, TernaryAt, View, is-leaf, is-unary, is-binary, is-ternary, view, leaf-in}
 use Rattle.value.specs.Value.{Datum, bool, datums}
 use Rattle.ops.specs.Ops as Ops
-use Rattle.ops.specs.Arith as OpsArith
 use Rattle.ops.specs.Not as Not
 use Rattle.value.specs.Answer.{Result, is, fault}
 use Rattle.eval.specs.Eval.{leafOf, unaryOf, arithOf, cmpOf, binaryOf, evalOf}
@@ -68,7 +67,7 @@ cmp-is T.le = refl
 cmp-is T.gt = refl
 cmp-is T.ge = refl
 
-pub unary-is : (o : Unary) → cond (eqb (unaryCode o) 6) OpsArith.minusOf Not.notOf ≡ unaryOf o
+pub unary-is : (o : Unary) → cond (eqb (unaryCode o) 6) Ops.minusOf Not.notOf ≡ unaryOf o
 unfolding unaryOf
 unary-is T.minus = refl
 unary-is T.not′ = refl

@@ -1,4 +1,4 @@
--- The operators on answers, as document 01 has them: left before right, and the first fault counts. Assumes nothing: these are definitions.
+-- The operators on answers, by document 01: left before right, and the first fault counts.
 use mathlib.Core.Bool.{true, false, cond}
 use Rattle.faults.specs.Numbers.{wrongKind}
 use Rattle.value.specs.Value.{Datum, nil, bool, int, float}

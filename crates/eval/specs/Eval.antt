@@ -1,5 +1,4 @@
 -- The meaning of a tree on the values of its locals, as document 01 has it: a value, or the number of the first fault.
--- Assumes nothing: these are definitions.
 use Prim.Native.Nat.{ℕ}
 use mathlib.Core.Bool.{true, false}
 use mathlib.Core.List.{List}
@@ -8,9 +7,8 @@ use Rattle.table.specs.Tree as T
 use Rattle.table.specs.Tree.{Leaf, Unary, Arith, Cmp, Binary, Tree}
 use Rattle.value.specs.Value.{Datum, nil, bool, int, float}
 use Rattle.value.specs.Answer.{Result, is}
-use Rattle.ops.specs.Arith.{minusOf, divOf}
 use Rattle.ops.specs.Not.{notOf}
-use Rattle.ops.specs.Ops.{andOf, orOf, xorOf, shlOf, shrOf, addOf, subOf, mulOf, remOf, eqOf, neOf, ltOf, leOf}
+use Rattle.ops.specs.Ops.{minusOf, bitAndOf, bitOrOf, bitXorOf, lshiftOf, rshiftOf, addOf, subOf, mulOf, divOf, modOf, eqOf, neOf, ltOf, leOf}
 use Rattle.eval.specs.Apply.{on, both, whether, test}
 
 -- ---- a literal is its value, a Ref the value of its local
@@ -30,16 +28,16 @@ unaryOf T.minus = minusOf
 unaryOf T.not′ = notOf
 
 unfoldable pub arithOf : Arith → Datum → Datum → Result
-arithOf T.bitAnd = andOf
-arithOf T.bitOr = orOf
-arithOf T.bitXor = xorOf
-arithOf T.lshift = shlOf
-arithOf T.rshift = shrOf
+arithOf T.bitAnd = bitAndOf
+arithOf T.bitOr = bitOrOf
+arithOf T.bitXor = bitXorOf
+arithOf T.lshift = lshiftOf
+arithOf T.rshift = rshiftOf
 arithOf T.add = addOf
 arithOf T.sub = subOf
 arithOf T.mul = mulOf
 arithOf T.div = divOf
-arithOf T.mod′ = remOf
+arithOf T.mod′ = modOf
 
 -- x > y is y < x, and x >= y is y <= x
 unfoldable pub cmpOf : Cmp → Datum → Datum → Result

@@ -1,5 +1,4 @@
 -- The evaluation of a node table on lent locals: the number of the first refusal, or the meaning of the tree at the last node.
--- Assumes nothing: these are definitions.
 use Prim.Native.Nat.{ℕ, zero, suc, _+_, _-_, min}
 use mathlib.Core.Bool.{not}
 use mathlib.Core.List.{List}

@@ -1,12 +1,12 @@
--- How the code goes about a node with children: it evaluates one child, and then stops or goes on with one more.
--- Assumes nothing: these are definitions.
+-- Plumbing: how the code goes about a node with children: it evaluates one child, and then stops or goes on with one more. What a tree means stands in Eval.
 use Prim.Native.Nat.{ℕ, _<_}
 use mathlib.Core.Path.{_≡_}
 use mathlib.Core.Bool.{cond}
 use mathlib.Core.List.{List}
 use lib.Dec.{leb, eqb}
 use Rattle.faults.specs.Numbers.{wrongKind}
-use Rattle.table.specs.Table.{kindAt, child1, child2, child3, Node}
+use Rattle.table.specs.Table.{kindAt, child1, child2, child3}
+use Rattle.table.specs.Nodes.{Node}
 use Rattle.value.specs.Value.{nil, bool, int, float}
 use Rattle.value.specs.Answer.{Result, is, fault}
 use Rattle.eval.specs.declared.next.Truth.{Truth}

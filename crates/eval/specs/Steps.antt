@@ -1,4 +1,4 @@
--- What the code makes of a lent pair, of a leaf and of the answers of a node's children. Assumes nothing: these are definitions.
+-- Plumbing: what the code makes of a lent pair, of a leaf and of the answers of a node's children. What a tree means stands in Eval.
 use Prim.Native.Nat.{ℕ}
 use mathlib.Core.Path.{_≡_}
 use mathlib.Core.Bool.{true, false, cond}
@@ -10,7 +10,6 @@ use mir.Val.{toZ}
 use Rattle.faults.specs.Numbers.{illFormed}
 use Rattle.value.specs.Value.{Datum, nil, bool, int, float, Read, well, ill, allWell}
 use Rattle.ops.specs.Ops as Ops
-use Rattle.ops.specs.Arith as Arith
 use Rattle.ops.specs.Not as Not
 use Rattle.value.specs.Answer.{Result, is, fault}
 use Rattle.eval.specs.declared.next.Rule.{Rule}
@@ -41,7 +40,7 @@ joinedOf R.Ternary k a b = b
 
 -- and from the first child's alone, where there is none
 abbrev pub aloneOf : Rule → ℕ → Result → Result
-aloneOf R.Unary k a = on (cond (eqb k 6) Arith.minusOf Not.notOf) a
+aloneOf R.Unary k a = on (cond (eqb k 6) Ops.minusOf Not.notOf) a
 aloneOf R.Operator k a = a
 aloneOf R.And k a = test a
 aloneOf R.Or k a = test a

@@ -17,7 +17,7 @@ use value::Lent;
 use value::Value;
 use value::answer::Answer;
 
-// A lent pair; an ill-formed one, which `evaluate` has refused before, is 29.
+// A lent pair. `evaluate` has refused every ill-formed one with 29 before; it is 29 here too, so that this needs no such promise.
 fn pair(kind: u8, payload: u64) -> Answer
     ensures { λ r. ⌜ resultOf r ≡ pairOf (Vs.ofPair kind payload) ⌝ }
 {
@@ -67,8 +67,8 @@ fn unary(k: u64, a: Answer) -> Answer
     ops::not::not(x)
 }
 
-// An operator on two answers: the first fault counts.
-fn operate(k: u64, a: Answer, b: Answer) -> Answer
+// A binary operator on two answers: left before right, so the left one's fault counts first.
+fn binary(k: u64, a: Answer, b: Answer) -> Answer
     ensures { λ r. ⌜ resultOf r ≡ both (Ops.binaryOf k) (resultOf a) (resultOf b) ⌝ }
 {
     let Answer::Is(x) = a else {
@@ -111,7 +111,7 @@ pub fn joined(r: Rule, k: u64, a: Answer, b: Answer) -> Answer
 {
     match r {
         Rule::Unary => b,
-        Rule::Operator => operate(k, a, b),
+        Rule::Operator => binary(k, a, b),
         Rule::And => tested(b),
         Rule::Or => tested(b),
         Rule::Ternary => b,

@@ -3,9 +3,8 @@ mod apply;
 mod next;
 
 ghost use mathlib.Core.Path.{_≡_};
-ghost use Prim.Native.Nat.{min};
 ghost use lib.ListN.{length};
-ghost use Rattle.table.specs.Table.{Node};
+ghost use Rattle.table.specs.Nodes.{Node};
 ghost use Rattle.table.specs.Tree.{tree};
 ghost use Rattle.value.specs.Value.{datums};
 ghost use Rattle.value.specs.Answer.{resultOf};
@@ -23,6 +22,8 @@ use table::Dest;
 use table::kind_at;
 use table::payload_at;
 use value::answer::Answer;
+use value::pairs::all_well;
+use value::pairs::shorter;
 
 // The answer of the tree at node i on the locals lent. Two calls of itself are all that it has, so that a level takes little of the stack.
 fn eval_node(nodes: &[u64], kinds: &[u8], payloads: &[u64], i: usize) -> Answer
@@ -44,12 +45,6 @@ fn eval_node(nodes: &[u64], kinds: &[u8], payloads: &[u64], i: usize) -> Answer
     joined(r, k, a, b)
 }
 
-fn shorter(a: usize, b: usize) -> usize
-    ensures { λ r. ⌜ r ≡ min a b ⌝ }
-{
-    if a < b { a } else { b }
-}
-
 // The answer of a node table on the values of its parameters and locals, which are lent as pairs: a value, or the number of the
 // first refusal or fault. It writes nothing.
 pub fn evaluate(nodes: &[u64], params: u64, locals: u64, kinds: &[u8], payloads: &[u64]) -> Answer
@@ -65,7 +60,7 @@ pub fn evaluate(nodes: &[u64], params: u64, locals: u64, kinds: &[u8], payloads:
     }
     let ks = &kinds[..base];
     let ps = &payloads[..base];
-    if value::pairs::all_well(ks, ps) {
+    if all_well(ks, ps) {
         return eval_node(nodes, ks, ps, nodes.len() / 4 - 1);
     }
     Answer::Fault(faults::ILL_FORMED)

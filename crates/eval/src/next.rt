@@ -1,6 +1,6 @@
 // Which child of a node is evaluated first, and which next: And, Or and Ternary skip what they need not evaluate.
 ghost use mathlib.Core.Path.{_≡_};
-ghost use Rattle.table.specs.Table.{ChildIs};
+ghost use Rattle.table.specs.Nodes.{ChildIs};
 ghost use Rattle.value.specs.Value as Vs;
 ghost use Rattle.value.specs.Answer.{is, resultOf};
 ghost use Rattle.eval.specs.Next.{Ruled, truthOf, ruleOf, firstOf, chosenOf, afterOf, nextOf};

@@ -1,5 +1,5 @@
 // Replays node tables with their locals, and writes what the check and the evaluator answer; tools/oracle/README.md has the layout.
-ghost use Prim.Native.Nat.{_≤_};
+use replay_io::within;
 use table::Dest;
 use value::answer::Answer;
 
@@ -13,16 +13,6 @@ fn dest_of(d: u64) -> Dest {
         return Dest::None;
     }
     Dest::Reg(d - 1)
-}
-
-// n, or the room where that is less.
-fn within(n: u64, room: usize) -> usize
-    ensures { λ r. ⌜ r ≤ room ⌝ }
-{
-    if n < room as u64 {
-        return n as usize;
-    }
-    room
 }
 
 fn write_answer(a: Answer) {

@@ -1,4 +1,4 @@
--- The laws of faults: when a sequence of tests gives 0, and what it gives otherwise. Assumes nothing.
+-- The laws of faults: when a sequence of tests gives 0, and what it gives otherwise.
 use mathlib.Core.Path.{_≡_, refl, sym, _∙_, ap}
 use mathlib.Core.Bool.{Bool, true, false, not, _&&_}
 use Prim.Native.Nat.{ℕ, zero, suc, _+_, _-_}

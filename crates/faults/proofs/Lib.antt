@@ -1,2 +1,2 @@
--- The laws that the proofs of `faults` cite.
+-- The laws of faults, which the proofs above cite.
 pub mod Faults

@@ -1,4 +1,4 @@
--- A fault is a number, and 0 is none. Assumes nothing: these are definitions.
+-- A fault is a number, and 0 is none.
 use Prim.Native.Nat.{ℕ, zero, suc}
 use mathlib.Core.Bool.{Bool, true, false}
 

@@ -1,4 +1,4 @@
--- The limits of document 01, in one place. Assumes nothing.
+-- The limits of document 01, in one place.
 use Prim.Native.Nat.{ℕ}
 
 abbrev pub maxNodes : ℕ

@@ -1,4 +1,4 @@
--- The numbers that a caller can get back, as document 01 lists them; 0 is none. Assumes nothing.
+-- The numbers that a caller can get back, as document 01 lists them; 0 is none.
 use Prim.Native.Nat.{ℕ}
 
 -- the table is empty, not a multiple of 4 words, or over maxNodes nodes

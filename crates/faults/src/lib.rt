@@ -1,6 +1,4 @@
 // The numbers of document 01, with their meanings, and the limits: the one place where they stand.
-ghost use mathlib.Core.Path.{_≡_};
-ghost use Rattle.faults.specs.Faults.{_or-else_};
 
 // No fault.
 pub const NONE: u8 = 0;
@@ -79,13 +77,3 @@ pub const MAX_DEPTH: u64 = 64;
 
 // The most registers: of parameters and locals together, and of a frame.
 pub const MAX_REGISTERS: u64 = 65535;
-
-// The first fault of two: a, or b where a is none.
-pub fn first(a: u8, b: u8) -> u8
-    ensures { λ r. ⌜ r ≡ a or-else b ⌝ }
-{
-    if a == NONE {
-        return b;
-    }
-    a
-}

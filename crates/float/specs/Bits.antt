@@ -1,5 +1,5 @@
 -- IEEE 754 binary64 over whole numbers. A pattern is a number below 2^64: a sign, 11 bits of exponent, 52 of fraction.
--- A finite value is a whole number of 2^-1074, the format's smallest step. Definitions only.
+-- A finite value is a whole number of 2^-1074, the format's smallest step.
 use Prim.Native.Nat.{ℕ, zero, suc, _+_, _*_, _/_, _%_, _^_}
 use mathlib.Core.Bool.{Bool, cond}
 use lib.Dec.{leb, ltb, eqb}

@@ -1,5 +1,5 @@
 -- The arithmetic of IEEE 754 binary64 over whole numbers of 2^-1074. A result is a pattern: the one nearest to the exact result, a tie to the even pattern.
--- That `rounded` is the nearest one, and the only one, is proved in `proofs/Nearest.antt`. Definitions only.
+-- That `rounded` is the nearest one, and the only one, is proved in `proofs/Nearest.antt`.
 use Prim.Native.Nat.{ℕ, zero, suc, _+_, _-_, _*_, _/_, _%_, _^_, _≤_, _<_, min}
 use mathlib.Core.Path.{_≡_}
 use mathlib.Core.Bool.{Bool, true, false, not, _&&_, Bool·beq, cond}
@@ -23,7 +23,8 @@ unfoldable pub toNearest : ℕ → ℕ → ℕ
 toNearest a b = let w = a / b in let r = a % b in cond (ltb (r * 2) b) w (cond (eqb (r * 2) b) (w + w % 2) (w + 1))
 
 -- The pattern, of no sign, nearest to num / den times 2^-1074. Of the whole part 53 digits are kept and k dropped, and what is kept is rounded.
--- Each digit dropped is one more in the exponent's field; the leading digit adds one more. From 2^1024 on it is infinity, so that no more than 2046 need be counted.
+-- Each digit dropped is one more in the exponent's field; the leading digit adds one more. From 2^1024 on it is infinity, so no more than 2046 need be
+-- counted.
 unfoldable pub rounded : ℕ → ℕ → ℕ
 rounded num den = let k = halvings 2046 (num / den) in min infinity (k * 2 ^ 52 + toNearest num (den * 2 ^ k))
 
@@ -37,8 +38,9 @@ pub record Nearest (num den q : ℕ) : Type 0 where
   pub below-upper : q < infinity → num * 2 ≤ (units q + units (q + 1)) * den
   pub on-upper : q < infinity → num * 2 ≡ (units q + units (q + 1)) * den → q % 2 ≡ 0
 
-abbrev pub signed : Bool → ℕ → ℕ
-signed s q = cond s (2 ^ 63) 0 + q
+-- a pattern of no sign with the sign s
+abbrev pub withSignBit : Bool → ℕ → ℕ
+withSignBit s q = cond s (2 ^ 63) 0 + q
 
 -- ---- arithmetic
 
@@ -48,16 +50,19 @@ unlike s t = not (Bool·beq s t)
 -- ±m + ±n. A sum that is exactly zero is -0 where both are negative, and +0 otherwise.
 unfoldable pub sum : Bool → ℕ → Bool → ℕ → ℕ
 unfolding rounded
-sum s m t n = cond (Bool·beq s t) (signed s (rounded (m + n) 1)) (cond (ltb m n) (signed t (rounded (n - m) 1)) (signed (s && ltb n m) (rounded (m - n) 1)))
+sum s m t n =
+    cond (Bool·beq s t) (withSignBit s (rounded (m + n) 1))
+    (cond (ltb m n) (withSignBit t (rounded (n - m) 1))
+    (withSignBit (s && ltb n m) (rounded (m - n) 1)))
 
 unfoldable pub add : Real → Real → ℕ
 unfolding sum
 add nan y = quiet
 add (inf s) nan = quiet
-add (inf s) (inf t) = cond (Bool·beq s t) (signed s infinity) quiet
-add (inf s) (fin t n) = signed s infinity
+add (inf s) (inf t) = cond (Bool·beq s t) (withSignBit s infinity) quiet
+add (inf s) (fin t n) = withSignBit s infinity
 add (fin s m) nan = quiet
-add (fin s m) (inf t) = signed t infinity
+add (fin s m) (inf t) = withSignBit t infinity
 add (fin s m) (fin t n) = sum s m t n
 
 abbrev pub negated : Real → Real
@@ -74,11 +79,11 @@ unfoldable pub mul : Real → Real → ℕ
 unfolding rounded
 mul nan y = quiet
 mul (inf s) nan = quiet
-mul (inf s) (inf t) = signed (unlike s t) infinity
-mul (inf s) (fin t n) = cond (eqb n 0) quiet (signed (unlike s t) infinity)
+mul (inf s) (inf t) = withSignBit (unlike s t) infinity
+mul (inf s) (fin t n) = cond (eqb n 0) quiet (withSignBit (unlike s t) infinity)
 mul (fin s m) nan = quiet
-mul (fin s m) (inf t) = cond (eqb m 0) quiet (signed (unlike s t) infinity)
-mul (fin s m) (fin t n) = signed (unlike s t) (rounded (m * n) (2 ^ 1074))
+mul (fin s m) (inf t) = cond (eqb m 0) quiet (withSignBit (unlike s t) infinity)
+mul (fin s m) (fin t n) = withSignBit (unlike s t) (rounded (m * n) (2 ^ 1074))
 
 -- the quotient of m and n steps is m * 2^1074 / n steps
 unfoldable pub div : Real → Real → ℕ
@@ -86,10 +91,13 @@ unfolding rounded
 div nan y = quiet
 div (inf s) nan = quiet
 div (inf s) (inf t) = quiet
-div (inf s) (fin t n) = signed (unlike s t) infinity
+div (inf s) (fin t n) = withSignBit (unlike s t) infinity
 div (fin s m) nan = quiet
-div (fin s m) (inf t) = signed (unlike s t) 0
-div (fin s m) (fin t n) = cond (eqb n 0) (cond (eqb m 0) quiet (signed (unlike s t) infinity)) (signed (unlike s t) (rounded (m * 2 ^ 1074) n))
+div (fin s m) (inf t) = withSignBit (unlike s t) 0
+div (fin s m) (fin t n) =
+    cond (eqb n 0)
+    (cond (eqb m 0) quiet (withSignBit (unlike s t) infinity))
+    (withSignBit (unlike s t) (rounded (m * 2 ^ 1074) n))
 
 unfoldable pub operate : Op → Real → Real → ℕ
 unfolding add sub mul div
@@ -102,8 +110,8 @@ operate Div x y = div x y
 
 unfoldable pub ofInt : ℤ → ℕ
 unfolding rounded
-ofInt (pos n) = signed false (rounded (n * 2 ^ 1074) 1)
-ofInt (negsuc n) = signed true (rounded (suc n * 2 ^ 1074) 1)
+ofInt (pos n) = withSignBit false (rounded (n * 2 ^ 1074) 1)
+ofInt (negsuc n) = withSignBit true (rounded (suc n * 2 ^ 1074) 1)
 
 -- the same where n is one that is exact
 unfoldable pub whole : ℤ → Whole

@@ -1,4 +1,4 @@
--- How two floats stand to each other, over whole numbers of 2^-1074. Definitions only.
+-- How two floats stand to each other, over whole numbers of 2^-1074.
 use mathlib.Core.Bool.{Bool·beq, cond}
 use Rattle.int64.specs.Sign.{withSign}
 use Rattle.int64.specs.Order.{Order, less, equal, greater, unordered, orderZ}

@@ -10,7 +10,8 @@ use lib.Signed.{mag}
 use borrow.Author.Tests.{eqb-true, eqb-false}
 use mir.Syntax.{w64}
 use mir.Val.{toZ, ofZ}
-use Rattle.table.specs.Table.{kindAt, child1, child2, Node, Child, Inner, ChildIs}
+use Rattle.table.specs.Table.{kindAt, child1, child2}
+use Rattle.table.specs.Nodes.{Node, Child, Inner, ChildIs}
 use Rattle.table.specs.Tree.{Unary, minus, not′, Arith, bitAnd, bitOr, bitXor, lshift, rshift, add, sub, mul, div, mod′, Binary, arith, cmp, and, or, Tree, unary, binaryKind, kindOf, tree, arithCode, binaryCode}
 use Rattle.table.proofs.Arities.{binary-code, cmp-codes}
 use Rattle.table.proofs.Trees.{View, is-leaf, is-unary, is-binary, is-ternary, view, BinaryAt, unary-in, unary-at, binary-in, binary-at}

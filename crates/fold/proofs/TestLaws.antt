@@ -6,7 +6,8 @@ use mathlib.Core.Logic.{inl, inr}
 use Prim.Native.Nat.{ℕ, _-_, _<_, _≤_}
 use native.Mathlib.Omega.{arith as numbers}
 use borrow.Author.Tests.{le-leb, lt-leb}
-use Rattle.table.specs.Table.{kindAt, child1, child2, Inner, ChildIs}
+use Rattle.table.specs.Table.{kindAt, child1, child2}
+use Rattle.table.specs.Nodes.{Inner, ChildIs}
 use Rattle.table.specs.Tree.{Cmp, Binary, arith, cmp, and, or, binaryKind, kindOf, tree}
 use Rattle.table.proofs.Arities.{binary-code, arith-codes, cmp-codes}
 use Rattle.table.proofs.Trees.{View, is-leaf, is-unary, is-binary, is-ternary, view, BinaryAt, binary-in}

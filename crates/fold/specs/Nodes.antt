@@ -4,7 +4,8 @@ use mathlib.Core.Bool.{false}
 use mathlib.Core.Logic.{_⊎_}
 use Prim.Native.Nat.{ℕ, _<_, _≤_}
 use mathlib.Core.List.{List}
-use Rattle.table.specs.Table.{kindAt, Node, Child}
+use Rattle.table.specs.Table.{kindAt}
+use Rattle.table.specs.Nodes.{Node, Child}
 use Rattle.table.specs.Tree.{tree}
 use Rattle.fold.specs.Opcodes.{isComparison}
 use Rattle.fold.specs.declared.Tail.{Tail}

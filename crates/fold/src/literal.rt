@@ -3,7 +3,7 @@ use insns::op::Imm16;
 ghost use mathlib.Core.Path.{_≡_};
 ghost use lib.Dec.{ltb};
 ghost use lib.Signed.{mag};
-ghost use Rattle.table.specs.Table.{Inner};
+ghost use Rattle.table.specs.Nodes.{Inner};
 ghost use Rattle.table.specs.Tree.{tree};
 ghost use Rattle.fold.specs.Literal.{bits, bitRun, litOf, constOf, immOf, asImm16, amountOf};
 

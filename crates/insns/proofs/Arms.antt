@@ -1,4 +1,4 @@
--- An arm of `encode`: the arm knows that i is j. Assumes nothing.
+-- An arm of `encode`: the arm knows that i is j.
 use mathlib.Core.Path.{_≡_, sym, ap, _∙_}
 use Rattle.insns.specs.Insns.{madeOf}
 use Rattle.insns.specs.declared.op.Op.{Op}

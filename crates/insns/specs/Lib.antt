@@ -1,4 +1,5 @@
 -- What the contracts of `insns` cite.
-pub mod Fields
-pub mod Insns
 pub mod Bits
+pub mod Fields
+pub mod Opcodes
+pub mod Insns

@@ -1,7 +1,17 @@
-// From an instruction to its word: the fields of each form, and the opcode of each instruction.
+// From an instruction to its word: the fields of each form, the opcode of each instruction, and `encode`, which joins them.
 use crate::Insn;
 use crate::Made;
 use crate::bits::signed_bits;
+use crate::fields::HALF_16;
+use crate::fields::HALF_24;
+use crate::fields::HALF_32;
+use crate::fields::SIZE_6;
+use crate::fields::SIZE_8;
+use crate::fields::SIZE_12;
+use crate::fields::SIZE_16;
+use crate::fields::SIZE_24;
+use crate::fields::SIZE_32;
+use crate::fields::SIZE_40;
 use crate::fields::make0;
 use crate::fields::make1;
 use crate::fields::make2;
@@ -25,166 +35,191 @@ use crate::op::Wide;
 ghost use mathlib.Core.Path.{_≡_};
 ghost use mathlib.Core.List.{[], _∷_};
 ghost use Rattle.insns.specs.Fields.{u, s, raw, make};
-ghost use Rattle.insns.specs.Insns.{madeOf, bareOp, twoOp, slotOp, threeOp, shiftOp, arithOp, oneOp, wideOp, ifOp, jumpOp, jumpImmOp, callOp, byIdOp};
+ghost use Rattle.insns.specs.Insns.{madeOf};
+ghost use Rattle.insns.specs.Opcodes.{bareOp, twoOp, slotOp, threeOp, shiftOp, arithOp, oneOp, wideOp, ifOp, jumpOp, jumpImmOp, callOp, byIdOp};
 
 pub fn two_word(op: u8, dst: u16, src: u16) -> Made
     ensures { λ r. ⌜ r ≡ make op (u 16 dst ∷ u 16 src ∷ []) ⌝ }
 {
-    make2(op, 65536, dst as u64, 65536, src as u64)
+    make2(op, SIZE_16, dst as u64, SIZE_16, src as u64)
 }
 
-pub fn slot_word(op: u8, dst: u16, slot: u32) -> Made
+pub(crate) fn slot_word(op: u8, dst: u16, slot: u32) -> Made
     ensures { λ r. ⌜ r ≡ make op (u 16 dst ∷ u 32 slot ∷ []) ⌝ }
 {
-    make2(op, 65536, dst as u64, 4294967296, slot as u64)
+    make2(op, SIZE_16, dst as u64, SIZE_32, slot as u64)
 }
 
 pub fn three_word(op: u8, dst: u16, a: u16, b: u16) -> Made
     ensures { λ r. ⌜ r ≡ make op (u 16 dst ∷ u 16 a ∷ u 16 b ∷ []) ⌝ }
 {
-    make3(op, 65536, dst as u64, 65536, a as u64, 65536, b as u64)
+    make3(
+        op,
+        SIZE_16,
+        dst as u64,
+        SIZE_16,
+        a as u64,
+        SIZE_16,
+        b as u64,
+    )
 }
 
 pub fn shift_word(op: u8, dst: u16, a: u16, shift: u8) -> Made
     ensures { λ r. ⌜ r ≡ make op (u 16 dst ∷ u 16 a ∷ u 6 shift ∷ []) ⌝ }
 {
-    make3(op, 65536, dst as u64, 65536, a as u64, 64, shift as u64)
+    make3(
+        op,
+        SIZE_16,
+        dst as u64,
+        SIZE_16,
+        a as u64,
+        SIZE_6,
+        shift as u64,
+    )
 }
 
-pub fn bit_and_mask_word(op: u8, dst: u16, a: u16, lo: u8, len: u8) -> Made
+pub(crate) fn bit_and_mask_word(op: u8, dst: u16, a: u16, lo: u8, len: u8) -> Made
     ensures { λ r. ⌜ r ≡ make op (u 16 dst ∷ u 16 a ∷ u 6 lo ∷ u 6 len ∷ []) ⌝ }
 {
     make4(
         op,
-        65536,
+        SIZE_16,
         dst as u64,
-        65536,
+        SIZE_16,
         a as u64,
-        64,
+        SIZE_6,
         lo as u64,
-        64,
+        SIZE_6,
         len as u64,
     )
 }
 
-pub fn rshift_mask_word(op: u8, dst: u16, a: u16, shift: u8, lo: u8, len: u8) -> Made
+pub(crate) fn rshift_mask_word(op: u8, dst: u16, a: u16, shift: u8, lo: u8, len: u8) -> Made
     ensures { λ r. ⌜ r ≡ make op (u 16 dst ∷ u 16 a ∷ u 6 shift ∷ u 6 lo ∷ u 6 len ∷ []) ⌝ }
 {
     make5(
         op,
-        65536,
+        SIZE_16,
         dst as u64,
-        65536,
+        SIZE_16,
         a as u64,
-        64,
+        SIZE_6,
         shift as u64,
-        64,
+        SIZE_6,
         lo as u64,
-        64,
+        SIZE_6,
         len as u64,
     )
 }
 
-pub fn clos_new_word(op: u8, dst: u16, fun: u32, num: u16) -> Made
+pub(crate) fn clos_new_word(op: u8, dst: u16, fun: u32, num: u16) -> Made
     ensures { λ r. ⌜ r ≡ make op (u 16 dst ∷ u 24 fun ∷ u 12 num ∷ []) ⌝ }
 {
     make3(
         op,
-        65536,
+        SIZE_16,
         dst as u64,
-        16777216,
+        SIZE_24,
         fun as u64,
-        4096,
+        SIZE_12,
         num as u64,
     )
 }
 
-pub fn clos_set_word(op: u8, clos: u16, src: u16, idx: u16) -> Made
+pub(crate) fn clos_set_word(op: u8, clos: u16, src: u16, idx: u16) -> Made
     ensures { λ r. ⌜ r ≡ make op (u 16 clos ∷ u 16 src ∷ u 12 idx ∷ []) ⌝ }
 {
-    make3(op, 65536, clos as u64, 65536, src as u64, 4096, idx as u64)
+    make3(
+        op,
+        SIZE_16,
+        clos as u64,
+        SIZE_16,
+        src as u64,
+        SIZE_12,
+        idx as u64,
+    )
 }
 
-pub fn clos_get_word(op: u8, dst: u16, idx: u16) -> Made
+pub(crate) fn clos_get_word(op: u8, dst: u16, idx: u16) -> Made
     ensures { λ r. ⌜ r ≡ make op (u 16 dst ∷ u 12 idx ∷ []) ⌝ }
 {
-    make2(op, 65536, dst as u64, 4096, idx as u64)
+    make2(op, SIZE_16, dst as u64, SIZE_12, idx as u64)
 }
 
 pub fn one_word(op: u8, dst: u16) -> Made
     ensures { λ r. ⌜ r ≡ make op (u 16 dst ∷ []) ⌝ }
 {
-    make1(op, 65536, dst as u64)
+    make1(op, SIZE_16, dst as u64)
 }
 
-pub fn wide_word(op: u8, dst: u16, val: u16, class: u32) -> Made
+pub(crate) fn wide_word(op: u8, dst: u16, val: u16, class: u32) -> Made
     ensures { λ r. ⌜ r ≡ make op (u 16 dst ∷ u 16 val ∷ u 24 class ∷ []) ⌝ }
 {
     make3(
         op,
-        65536,
+        SIZE_16,
         dst as u64,
-        65536,
+        SIZE_16,
         val as u64,
-        16777216,
+        SIZE_24,
         class as u64,
     )
 }
 
-pub fn call_word(op: u8, start: u16, argc: u8, cache: u32) -> Made
+pub(crate) fn call_word(op: u8, start: u16, argc: u8, cache: u32) -> Made
     ensures { λ r. ⌜ r ≡ make op (u 16 start ∷ u 8 argc ∷ u 24 cache ∷ []) ⌝ }
 {
     make3(
         op,
-        65536,
+        SIZE_16,
         start as u64,
-        256,
+        SIZE_8,
         argc as u64,
-        16777216,
+        SIZE_24,
         cache as u64,
     )
 }
 
-pub fn call_host_word(op: u8, host: u16, start: u16, argc: u8) -> Made
+pub(crate) fn call_host_word(op: u8, host: u16, start: u16, argc: u8) -> Made
     ensures { λ r. ⌜ r ≡ make op (u 16 host ∷ u 16 start ∷ u 8 argc ∷ []) ⌝ }
 {
     make3(
         op,
-        65536,
+        SIZE_16,
         host as u64,
-        65536,
+        SIZE_16,
         start as u64,
-        256,
+        SIZE_8,
         argc as u64,
     )
 }
 
-pub fn by_id_word(op: u8, fun: u32, start: u16, argc: u8) -> Made
+pub(crate) fn by_id_word(op: u8, fun: u32, start: u16, argc: u8) -> Made
     ensures { λ r. ⌜ r ≡ make op (u 24 fun ∷ u 16 start ∷ u 8 argc ∷ []) ⌝ }
 {
     make3(
         op,
-        16777216,
+        SIZE_24,
         fun as u64,
-        65536,
+        SIZE_16,
         start as u64,
-        256,
+        SIZE_8,
         argc as u64,
     )
 }
 
-pub fn call_method_host_word(op: u8, start: u16, argc: u8, tag: u8, cache: u32) -> Made
+pub(crate) fn call_method_host_word(op: u8, start: u16, argc: u8, tag: u8, cache: u32) -> Made
     ensures { λ r. ⌜ r ≡ make op (u 16 start ∷ u 8 argc ∷ u 8 tag ∷ u 24 cache ∷ []) ⌝ }
 {
     make4(
         op,
-        65536,
+        SIZE_16,
         start as u64,
-        256,
+        SIZE_8,
         argc as u64,
-        256,
+        SIZE_8,
         tag as u64,
-        16777216,
+        SIZE_24,
         cache as u64,
     )
 }
@@ -355,9 +390,9 @@ pub fn encode(i: Op) -> Made
         Op::Bare(k) => make0(bare_op(k)),
         Op::LoadImm40(dst, imm) => make2(
             Insn::LOAD_IMM40,
-            65536,
+            SIZE_16,
             dst as u64,
-            1099511627776,
+            SIZE_40,
             raw_bits(imm),
         ),
         Op::Two(k, dst, src) => two_word(two_op(k), dst, src),
@@ -375,12 +410,12 @@ pub fn encode(i: Op) -> Made
         ),
         Op::Arith(k, dst, a, imm) => make3(
             arith_op(k),
-            65536,
+            SIZE_16,
             dst as u64,
-            65536,
+            SIZE_16,
             a as u64,
-            65536,
-            signed_bits(imm.n as i64, 32768),
+            SIZE_16,
+            signed_bits(imm.n as i64, HALF_16),
         ),
         Op::ClosNew(dst, fun, num) => clos_new_word(Insn::CLOS_NEW, dst, fun, num),
         Op::ClosSet(clos, src, idx) => clos_set_word(Insn::CLOS_SET, clos, src, idx),
@@ -389,34 +424,30 @@ pub fn encode(i: Op) -> Made
         Op::Wide(k, dst, val, class) => wide_word(wide_op(k), dst, val, class),
         Op::If(k, val, disp) => make2(
             if_op(k),
-            65536,
+            SIZE_16,
             val as u64,
-            4294967296,
-            signed_bits(disp.by as i64, 2147483648),
+            SIZE_32,
+            signed_bits(disp.by as i64, HALF_32),
         ),
         Op::Jump(k, a, b, disp) => make3(
             jump_op(k),
-            65536,
+            SIZE_16,
             a as u64,
-            65536,
+            SIZE_16,
             b as u64,
-            16777216,
-            signed_bits(disp.by as i64, 8388608),
+            SIZE_24,
+            signed_bits(disp.by as i64, HALF_24),
         ),
         Op::JumpImm(k, a, imm, disp) => make3(
             jump_imm_op(k),
-            65536,
+            SIZE_16,
             a as u64,
-            65536,
-            signed_bits(imm.n as i64, 32768),
-            16777216,
-            signed_bits(disp.by as i64, 8388608),
+            SIZE_16,
+            signed_bits(imm.n as i64, HALF_16),
+            SIZE_24,
+            signed_bits(disp.by as i64, HALF_24),
         ),
-        Op::Jmp(disp) => make1(
-            Insn::JMP,
-            4294967296,
-            signed_bits(disp.by as i64, 2147483648),
-        ),
+        Op::Jmp(disp) => make1(Insn::JMP, SIZE_32, signed_bits(disp.by as i64, HALF_32)),
         Op::Call(k, start, argc, cache) => call_word(call_op(k), start, argc, cache),
         Op::CallHost(host, start, argc) => call_host_word(Insn::CALL_HOST, host, start, argc),
         Op::ById(k, fun, start, argc) => by_id_word(by_id_op(k), fun, start, argc),
@@ -427,6 +458,6 @@ pub fn encode(i: Op) -> Made
             tag,
             cache,
         ),
-        Op::RetImm40(imm) => make1(Insn::RET_IMM40, 1099511627776, raw_bits(imm)),
+        Op::RetImm40(imm) => make1(Insn::RET_IMM40, SIZE_40, raw_bits(imm)),
     }
 }

@@ -1,4 +1,5 @@
-// The opcode and the constructor of each of the 77 instructions. A constructor answers Refused (9) where an operand does not fit its field.
+// The opcode and the constructor of each of the 77 instructions, in the order of 001 and with its reasons. A constructor answers Refused (9) where
+// an operand does not fit its field.
 use crate::Insn;
 use crate::Made;
 use crate::encode::bit_and_mask_word;
@@ -196,42 +197,50 @@ impl Insn {
 
     pub const RET_IMM40: u8 = 76;
 
+    // Halts with an error. Panic is zero so that jumping to uninitialized memory causes panic.
     pub fn panic() -> Made
         ensures { λ r. ⌜ r ≡ madeOf (Op.Bare Bare.Panic) ⌝ }
     {
         make0(Insn::PANIC)
     }
 
+    // A debugger's breakpoint.
     pub fn breakpoint() -> Made
         ensures { λ r. ⌜ r ≡ madeOf (Op.Bare Bare.Breakpoint) ⌝ }
     {
         make0(Insn::BREAKPOINT)
     }
 
+    // Can be used for code patching, or to disable breakpoints.
     pub fn nop() -> Made
         ensures { λ r. ⌜ r ≡ madeOf (Op.Bare Bare.Nop) ⌝ }
     {
         make0(Insn::NOP)
     }
 
+    // Loads a sign-extended immediate as the raw bits of a value: Nil, booleans and Ints of 38 bits, which is what is left once the destination
+    // register has its 16 bits. A value is tagged two bits wider than the number it holds, so this is what it takes to carry a 32-bit mask.
     pub fn load_imm40(dst: u16, imm: Imm40) -> Made
         ensures { λ r. ⌜ r ≡ madeOf (Op.LoadImm40 dst imm) ⌝ }
     {
         encode(Op::LoadImm40(dst, imm))
     }
 
+    // Copies a value from one register to another.
     pub fn mov(dst: u16, src: u16) -> Made
         ensures { λ r. ⌜ r ≡ madeOf (Op.Two Two.Mov dst src) ⌝ }
     {
         two_word(Insn::MOV, dst, src)
     }
 
+    // Loads a constant from a constant slot.
     pub fn load_const(dst: u16, slot: u32) -> Made
         ensures { λ r. ⌜ r ≡ madeOf (Op.Slot Slot.LoadConst dst slot) ⌝ }
     {
         slot_word(Insn::LOAD_CONST, dst, slot)
     }
 
+    // Global variables.
     pub fn get_global(dst: u16, idx: u32) -> Made
         ensures { λ r. ⌜ r ≡ madeOf (Op.Slot Slot.GetGlobal dst idx) ⌝ }
     {
@@ -244,6 +253,7 @@ impl Insn {
         slot_word(Insn::SET_GLOBAL, src, idx)
     }
 
+    // Bitwise operations.
     pub fn lshift(dst: u16, a: u16, b: u16) -> Made
         ensures { λ r. ⌜ r ≡ madeOf (Op.Three Three.Lshift dst a b) ⌝ }
     {
@@ -280,6 +290,7 @@ impl Insn {
         two_word(Insn::BIT_NOT, dst, src)
     }
 
+    // Shifts by a constant amount. The generator emits these only for an amount below the word size.
     pub fn lshift_imm(dst: u16, a: u16, shift: u8) -> Made
         ensures { λ r. ⌜ r ≡ madeOf (Op.Shift Shift.Left dst a shift) ⌝ }
     {
@@ -292,18 +303,22 @@ impl Insn {
         shift_word(Insn::RSHIFT_IMM, dst, a, shift)
     }
 
+    // And with a constant mask, given as a run of `len` set bits starting at bit `lo`. Encoding the run rather than the value is what lets a 32-bit
+    // mask fit alongside two registers. The generator keeps the run inside a fixnum.
     pub fn bit_and_mask(dst: u16, a: u16, lo: u8, len: u8) -> Made
         ensures { λ r. ⌜ r ≡ madeOf (Op.BitAndMask dst a lo len) ⌝ }
     {
         bit_and_mask_word(Insn::BIT_AND_MASK, dst, a, lo, len)
     }
 
+    // Shifts right by a constant, then masks the result. Extracting a field out of a packed word is common enough to be worth one instruction.
     pub fn rshift_mask(dst: u16, a: u16, shift: u8, lo: u8, len: u8) -> Made
         ensures { λ r. ⌜ r ≡ madeOf (Op.RshiftMask dst a shift lo len) ⌝ }
     {
         rshift_mask_word(Insn::RSHIFT_MASK, dst, a, shift, lo, len)
     }
 
+    // Arithmetic operations.
     pub fn add(dst: u16, a: u16, b: u16) -> Made
         ensures { λ r. ⌜ r ≡ madeOf (Op.Three Three.Add dst a b) ⌝ }
     {
@@ -334,6 +349,7 @@ impl Insn {
         three_word(Insn::MODULO, dst, a, b)
     }
 
+    // The same with a 16-bit literal.
     pub fn add_imm16(dst: u16, a: u16, imm: Imm16) -> Made
         ensures { λ r. ⌜ r ≡ madeOf (Op.Arith Arith.Plus dst a imm) ⌝ }
     {
@@ -352,12 +368,14 @@ impl Insn {
         encode(Op::Arith(Arith::Times, dst, a, imm))
     }
 
+    // Logical negation of a boolean.
     pub fn not(dst: u16, src: u16) -> Made
         ensures { λ r. ⌜ r ≡ madeOf (Op.Two Two.Not dst src) ⌝ }
     {
         two_word(Insn::NOT, dst, src)
     }
 
+    // Closures.
     pub fn clos_new(dst: u16, fun_id: u32, num_slots: u16) -> Made
         ensures { λ r. ⌜ r ≡ madeOf (Op.ClosNew dst «fun_id» «num_slots») ⌝ }
     {
@@ -376,6 +394,7 @@ impl Insn {
         clos_get_word(Insn::CLOS_GET, dst, idx)
     }
 
+    // Mutable cells. A new cell starts out holding nil.
     pub fn cell_new(dst: u16) -> Made
         ensures { λ r. ⌜ r ≡ madeOf (Op.One One.CellNew dst) ⌝ }
     {
@@ -394,6 +413,7 @@ impl Insn {
         two_word(Insn::CELL_GET, dst, cell)
     }
 
+    // Whether a value is an instance of a class that has no subclasses; below, of a class or one of its subclasses.
     pub fn instanceof(dst: u16, val: u16, class_id: u32) -> Made
         ensures { λ r. ⌜ r ≡ madeOf (Op.Wide Wide.Instanceof dst val «class_id») ⌝ }
     {
@@ -406,6 +426,7 @@ impl Insn {
         wide_word(Insn::INSTANCEOF_SUB, dst, val, class_id)
     }
 
+    // The field name, class id and slot index all live in the cache entry, which is what keeps these within one word.
     pub fn get_field(dst: u16, obj: u16, cache: u32) -> Made
         ensures { λ r. ⌜ r ≡ madeOf (Op.Wide Wide.GetField dst obj cache) ⌝ }
     {
@@ -418,6 +439,7 @@ impl Insn {
         wide_word(Insn::SET_FIELD, obj, src, cache)
     }
 
+    // Indexed elements.
     pub fn get_index(dst: u16, arr: u16, idx: u16) -> Made
         ensures { λ r. ⌜ r ≡ madeOf (Op.Three Three.GetIndex dst arr idx) ⌝ }
     {
@@ -430,12 +452,14 @@ impl Insn {
         three_word(Insn::SET_INDEX, arr, idx, src)
     }
 
+    // A new dictionary.
     pub fn dict_new(dst: u16) -> Made
         ensures { λ r. ⌜ r ≡ madeOf (Op.One One.DictNew dst) ⌝ }
     {
         one_word(Insn::DICT_NEW, dst)
     }
 
+    // Arrays.
     pub fn arr_new(dst: u16, capacity: u32) -> Made
         ensures { λ r. ⌜ r ≡ madeOf (Op.Slot Slot.ArrNew dst capacity) ⌝ }
     {
@@ -448,12 +472,14 @@ impl Insn {
         two_word(Insn::ARR_PUSH, arr, val)
     }
 
+    // Clones a bytearray.
     pub fn ba_clone(dst: u16, src: u16) -> Made
         ensures { λ r. ⌜ r ≡ madeOf (Op.Two Two.BaClone dst src) ⌝ }
     {
         two_word(Insn::BA_CLONE, dst, src)
     }
 
+    // Jumps if the register holds true; below, if it holds false.
     pub fn if_true(val: u16, disp: Disp) -> Made
         ensures { λ r. ⌜ r ≡ madeOf (Op.If Sense.Yes val disp) ⌝ }
     {
@@ -466,6 +492,7 @@ impl Insn {
         encode(Op::If(Sense::No, val, disp))
     }
 
+    // The displacement takes the 24 bits left over by the two registers, which is more range than any function will need.
     pub fn jeq(a: u16, b: u16, disp: Disp) -> Made
         ensures { λ r. ⌜ r ≡ madeOf (Op.Jump Cmp.Eq a b disp) ⌝ }
     {
@@ -502,6 +529,8 @@ impl Insn {
         encode(Op::Jump(Cmp::Ge, a, b, disp))
     }
 
+    // The inverses of the ordered comparisons. NaN is unordered, so `a < b` and `a >= b` are both false for it and neither is the negation of the
+    // other. A test that has to branch on a comparison failing needs its own instruction rather than the opposite comparison.
     pub fn jnlt(a: u16, b: u16, disp: Disp) -> Made
         ensures { λ r. ⌜ r ≡ madeOf (Op.Jump Cmp.Nlt a b disp) ⌝ }
     {
@@ -526,6 +555,8 @@ impl Insn {
         encode(Op::Jump(Cmp::Nge, a, b, disp))
     }
 
+    // The same comparisons against an integer literal, which saves the load of the constant into a register. The immediate takes the room that the
+    // second register leaves, so the word is no bigger. A literal on the left is mirrored into one of these by the generator.
     pub fn jeq_imm16(a: u16, imm: Imm16, disp: Disp) -> Made
         ensures { λ r. ⌜ r ≡ madeOf (Op.JumpImm Cmp.Eq a imm disp) ⌝ }
     {
@@ -586,54 +617,64 @@ impl Insn {
         encode(Op::JumpImm(Cmp::Nge, a, imm, disp))
     }
 
+    // The unconditional jump.
     pub fn jmp(disp: Disp) -> Made
         ensures { λ r. ⌜ r ≡ madeOf (Op.Jmp disp) ⌝ }
     {
         encode(Op::Jmp(disp))
     }
 
+    // Calls a function operand. The callee sits in start_reg + argc, just past the arguments: naming it there rather than in an operand is what leaves
+    // room for the cache, and it keeps the return value in start_reg like every other call.
     pub fn call_opnd(start_reg: u16, argc: u8, cache: u32) -> Made
         ensures { λ r. ⌜ r ≡ madeOf (Op.Call Call.Opnd «start_reg» argc cache) ⌝ }
     {
         call_word(Insn::CALL_OPND, start_reg, argc, cache)
     }
 
+    // Calls a known host function.
     pub fn call_host(host_fn: u16, start_reg: u16, argc: u8) -> Made
         ensures { λ r. ⌜ r ≡ madeOf (Op.CallHost «host_fn» «start_reg» argc) ⌝ }
     {
         call_host_word(Insn::CALL_HOST, host_fn, start_reg, argc)
     }
 
+    // Calls a known function by its id. This gets optimized into call_pc once the callee has been compiled.
     pub fn call_direct(fun: u32, start_reg: u16, argc: u8) -> Made
         ensures { λ r. ⌜ r ≡ madeOf (Op.ById ById.Direct fun «start_reg» argc) ⌝ }
     {
         by_id_word(Insn::CALL_DIRECT, fun, start_reg, argc)
     }
 
+    // The callee is statically known, so there is nothing to guard on. There is a cache entry because the parameters do not all fit into one word.
     pub fn call_pc(start_reg: u16, argc: u8, cache: u32) -> Made
         ensures { λ r. ⌜ r ≡ madeOf (Op.Call Call.Pc «start_reg» argc cache) ⌝ }
     {
         call_word(Insn::CALL_PC, start_reg, argc, cache)
     }
 
+    // Calls a method on the object in start_reg. The method name, and the class it was last looked up on, live in the cache entry.
     pub fn call_method(start_reg: u16, argc: u8, cache: u32) -> Made
         ensures { λ r. ⌜ r ≡ madeOf (Op.Call Call.Method «start_reg» argc cache) ⌝ }
     {
         call_word(Insn::CALL_METHOD, start_reg, argc, cache)
     }
 
+    // Calls a host method, guarded on the type tag of the value in start_reg. The guard is an immediate, so a miss costs no loads.
     pub fn call_method_host(start_reg: u16, argc: u8, type_tag: u8, cache: u32) -> Made
         ensures { λ r. ⌜ r ≡ madeOf (Op.CallMethodHost «start_reg» argc «type_tag» cache) ⌝ }
     {
         call_method_host_word(Insn::CALL_METHOD_HOST, start_reg, argc, type_tag, cache)
     }
 
+    // Integer division, specialized from a call_method. It takes the same operands, so that going back is a write of the opcode.
     pub fn call_idiv_int(start_reg: u16, argc: u8, cache: u32) -> Made
         ensures { λ r. ⌜ r ≡ madeOf (Op.Call Call.IdivInt «start_reg» argc cache) ⌝ }
     {
         call_word(Insn::CALL_IDIV_INT, start_reg, argc, cache)
     }
 
+    // Creating a class instance runs a constructor, so it is a call.
     pub fn new(class_id: u32, start_reg: u16, argc: u8) -> Made
         ensures { λ r. ⌜ r ≡ madeOf (Op.ById ById.Fresh «class_id» «start_reg» argc) ⌝ }
     {
@@ -646,12 +687,14 @@ impl Insn {
         call_word(Insn::NEW_KNOWN_CTOR, start_reg, argc, cache)
     }
 
+    // Returns the value found in a register.
     pub fn ret(src: u16) -> Made
         ensures { λ r. ⌜ r ≡ madeOf (Op.One One.Ret src) ⌝ }
     {
         one_word(Insn::RET, src)
     }
 
+    // Returns an immediate as the raw bits of a value, covering the same range load_imm40 does.
     pub fn ret_imm40(imm: Imm40) -> Made
         ensures { λ r. ⌜ r ≡ madeOf (Op.RetImm40 imm) ⌝ }
     {

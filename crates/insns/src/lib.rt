@@ -2,9 +2,13 @@
 pub mod bits;
 pub mod encode;
 pub mod fields;
-pub mod forms;
+mod forms;
 pub mod op;
-// An instruction word: the opcode in the low byte, the fields above it, unused bits 0.
+
+ghost use mathlib.Core.Path.{_≡_};
+ghost use Rattle.insns.specs.Fields.{madeNumber};
+
+// An instruction is one 64-bit word: the opcode in the low byte, the operands packed above it, unused bits 0.
 pub struct Insn {
     pub bits: u64,
 }
@@ -13,4 +17,14 @@ pub struct Insn {
 pub enum Made {
     Fits(Insn),
     Refused,
+}
+
+// The number of a constructor's answer.
+pub fn number_of(made: Made) -> u8
+    ensures { λ r. ⌜ r ≡ madeNumber made ⌝ }
+{
+    match made {
+        Made::Fits(_) => faults::NONE,
+        Made::Refused => faults::NO_FIT,
+    }
 }

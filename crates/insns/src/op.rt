@@ -1,5 +1,5 @@
-// A decoded instruction, grouped by the operands that it takes. A branch carries its comparison beside two registers (Jump), or beside a register
-// and a 16-bit literal (JumpImm). A signed operand is a number of the Rust's type in a struct of its own.
+// A decoded instruction, grouped by the operands that it takes, so that a table has 23 lines and not 77. A branch carries its comparison beside two
+// registers (Jump), or beside a register and a 16-bit literal (JumpImm). A signed operand is a number of the Rust's type in a struct of its own.
 
 // A 16-bit literal.
 pub struct Imm16 {
@@ -11,7 +11,8 @@ pub struct Imm40 {
     pub raw: i64,
 }
 
-// A branch displacement: target minus branch position minus one.
+// A branch displacement: target minus branch position minus one. It is counted in instructions, relative to the one following the branch, so a
+// displacement of zero falls through.
 pub struct Disp {
     pub by: i32,
 }
@@ -92,7 +93,7 @@ pub enum Sense {
     No,
 }
 
-// the comparison that a branch makes; `Nlt` holds where `Lt` does not, also of a NaN
+// the comparison that a branch makes; `Nlt` holds where `Lt` does not: of a NaN too, where neither `Lt` nor `Ge` does
 pub enum Cmp {
     Eq,
     Ne,

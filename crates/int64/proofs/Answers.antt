@@ -1,4 +1,4 @@
--- What each operator answers, as the code finds it. Assumes nothing.
+-- What each operator answers, as the code finds it.
 use mathlib.Core.Path.{_≡_, refl, sym, ap, ap₂, _∙_}
 use mathlib.Core.Bool.{Bool, true, false, cond}
 use Prim.Native.Nat.{ℕ, _-_, _*_, _%_, _≤_, _<_, _^_}
@@ -12,26 +12,26 @@ use mir.Val.{SFits, Fits, toZ, ofZ}
 use mir.ValLaws.{toZ-ofZ, ofZ-toZ, toZ-fits}
 use borrow.Author.Tests.{lt-ltb, le-ltb, eq-eqb, ne-eqb, ltb-true}
 use Rattle.faults.specs.Numbers.{modByZero, badShift}
-use Rattle.int64.specs.Sign.{bitsOf}
 use Rattle.int64.proofs.sign.Laws.{one-shifted}
 use Rattle.int64.proofs.exact.Laws.{by-positive, sign-number, sign-fits}
 use Rattle.int64.specs.Int as Int
 use Rattle.int64.specs.Int.{Outcome, number, fault, checked, exact, bitwise, shifted, floor}
-use Rattle.int64.specs.Exact.{inRange, held}
+use Rattle.int64.specs.Exact.{inRange}
+use Rattle.int64.specs.Patterns.{bitsOf, fitted}
 use Rattle.int64.specs.Sign.{negative, withSign}
 
 -- ---- exact results
 
 -- the answer made of the test and the pattern
-pub checked-exact : (z : ℤ) → checked (inRange z) (toZ w64 (held z)) ≡ exact z
-unfolding exact held checked inRange
+pub checked-exact : (z : ℤ) → checked (inRange z) (toZ w64 (fitted z)) ≡ exact z
+unfolding exact fitted checked inRange
 checked-exact z = go (inRange z) refl
   where
     go : (b : Bool) → inRange z ≡ b → checked b (toZ w64 (cond b (ofZ w64 z) 0)) ≡ checked b z
     go true e = ap number (toZ-ofZ w64 z (record { sfits = ltb-true (mag z) (2 ^ 63) e }))
     go false e = refl
 
-pub exact-by : (z : ℤ) {o : Outcome} {t : Bool} {u : ℕ} → o ≡ checked t (toZ w64 u) → t ≡ inRange z → u ≡ held z → o ≡ exact z
+pub exact-by : (z : ℤ) {o : Outcome} {t : Bool} {u : ℕ} → o ≡ checked t (toZ w64 u) → t ≡ inRange z → u ≡ fitted z → o ≡ exact z
 exact-by z e f g = e ∙ ap₂ (λ (b : Bool) (n : ℕ). checked b (toZ w64 n)) f g ∙ checked-exact z
 
 -- ---- the operator on bits
@@ -64,12 +64,12 @@ pub shr-no : (p q : ℕ) → 64 ≤ q → fault badShift ≡ Int.shr (toZ w64 p)
 unfolding Int.shr
 shr-no p q h = shift-no q _ h
 
-pub shl-yes : (p q : ℕ) {o : Outcome} {t s : Bool} {u x : ℕ} → o ≡ checked t (toZ w64 u) → t ≡ inRange (withSign s (x * (1 * 2 ^ q % 2 ^ 64))) → u ≡ held (withSign s (x * (1 * 2 ^ q % 2 ^ 64)))
+pub shl-yes : (p q : ℕ) {o : Outcome} {t s : Bool} {u x : ℕ} → o ≡ checked t (toZ w64 u) → t ≡ inRange (withSign s (x * (1 * 2 ^ q % 2 ^ 64))) → u ≡ fitted (withSign s (x * (1 * 2 ^ q % 2 ^ 64)))
     → s ≡ negative (toZ w64 p) → x ≡ natAbs (toZ w64 p) → q < 64 → o ≡ Int.shl (toZ w64 p) (toZ w64 q)
 unfolding Int.shl
 shl-yes p q {s = s} {x = x} e f g a b h =
     let z : withSign s (x * (1 * 2 ^ q % 2 ^ 64)) ≡ toZ w64 p *ℤ pos (2 ^ q) = rw (a, b, one-shifted q h) (sym (by-positive (toZ w64 p) (2 ^ q))) in
-    exact-by (toZ w64 p *ℤ pos (2 ^ q)) e (f ∙ ap inRange z) (g ∙ ap held z) ∙ sym (shift-yes q _ h)
+    exact-by (toZ w64 p *ℤ pos (2 ^ q)) e (f ∙ ap inRange z) (g ∙ ap fitted z) ∙ sym (shift-yes q _ h)
 
 pub shr-yes : (p q r : ℕ) (n : ℤ) → r ≡ ofZ w64 (toZ w64 (ofZ w64 (shrZ (toZ w64 (ofZ w64 n)) (2 ^ q)))) → n ≡ toZ w64 p → Fits w64 p → q < 64 → number (toZ w64 r) ≡ Int.shr (toZ w64 p) (toZ w64 q)
 unfolding Int.shr

@@ -1,4 +1,4 @@
--- How two numbers stand to each other, and which comparisons hold then. Assumes nothing.
+-- How two numbers stand to each other, and which comparisons hold then.
 use mathlib.Core.Bool.{Bool, true, false, not, _||_, cond}
 use lib.IntN.{ℤ}
 use lib.Signed.{ltZ}

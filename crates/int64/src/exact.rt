@@ -1,13 +1,14 @@
-// Sum, difference and product of two patterns, and whether 64 bits hold them: plain numbers throughout, cheap to run.
+// Sum, difference and product of two patterns, and whether 64 bits hold them. Test and pattern are two plain numbers: an enum between the two would cost more.
 ghost use mathlib.Core.Path.{_≡_};
 ghost use Prim.Native.Nat.{_*_};
 ghost use mir.Syntax.{w64};
 ghost use mir.Val.{toZ};
 ghost use Rattle.int64.specs.Sign.{withSign};
-ghost use Rattle.int64.specs.Exact.{inRange, held, arith};
+ghost use Rattle.int64.specs.Exact.{inRange, arith};
+ghost use Rattle.int64.specs.Patterns.{fitted};
 
 // The operators whose result may leave 64 bits.
-pub enum Arith {
+pub enum Overflowing {
     Add,
     Sub,
     Mul,
@@ -32,7 +33,7 @@ pub fn times_fits(neg: bool, x: u64, y: u64) -> bool
 }
 
 pub fn times(neg: bool, x: u64, y: u64) -> u64
-    ensures { λ r. ⌜ r ≡ held (withSign neg (x * y)) ⌝ }
+    ensures { λ r. ⌜ r ≡ fitted (withSign neg (x * y)) ⌝ }
 {
     if times_fits(neg, x, y) {
         crate::sign::with_sign(neg, x * y)
@@ -42,27 +43,27 @@ pub fn times(neg: bool, x: u64, y: u64) -> u64
 }
 
 // Whether 64 bits hold the exact result.
-pub fn fits(op: Arith, p: u64, q: u64) -> bool
+pub fn fits(op: Overflowing, p: u64, q: u64) -> bool
     ensures { λ r. ⌜ r ≡ inRange (arith op (toZ w64 p) (toZ w64 q)) ⌝ }
 {
     let a = crate::sign::raised(p);
     let b = crate::sign::raised(q);
     match op {
-        Arith::Add => {
+        Overflowing::Add => {
             if a < 0x8000_0000_0000_0000 {
                 b >= 0x8000_0000_0000_0000 - a
             } else {
                 b <= 0xffff_ffff_ffff_ffff - (a - 0x8000_0000_0000_0000)
             }
         }
-        Arith::Sub => {
+        Overflowing::Sub => {
             if a < 0x8000_0000_0000_0000 {
                 b <= a + 0x8000_0000_0000_0000
             } else {
                 b > a - 0x8000_0000_0000_0000
             }
         }
-        Arith::Mul => times_fits(
+        Overflowing::Mul => times_fits(
             crate::sign::negative(p) != crate::sign::negative(q),
             crate::sign::size(p),
             crate::sign::size(q),
@@ -71,14 +72,14 @@ pub fn fits(op: Arith, p: u64, q: u64) -> bool
 }
 
 // The pattern of the exact result, or 0 where it does not fit.
-pub fn result(op: Arith, p: u64, q: u64) -> u64
-    ensures { λ r. ⌜ r ≡ held (arith op (toZ w64 p) (toZ w64 q)) ⌝ }
+pub fn result(op: Overflowing, p: u64, q: u64) -> u64
+    ensures { λ r. ⌜ r ≡ fitted (arith op (toZ w64 p) (toZ w64 q)) ⌝ }
 {
     if fits(op, p, q) {
         match op {
-            Arith::Add => std::num::wrapping_add_u64(p, q),
-            Arith::Sub => std::num::wrapping_sub_u64(p, q),
-            Arith::Mul => times(
+            Overflowing::Add => std::num::wrapping_add_u64(p, q),
+            Overflowing::Sub => std::num::wrapping_sub_u64(p, q),
+            Overflowing::Mul => times(
                 crate::sign::negative(p) != crate::sign::negative(q),
                 crate::sign::size(p),
                 crate::sign::size(q),

@@ -5,6 +5,7 @@ ghost use lib.IntN.{natAbs};
 ghost use mir.Syntax.{w64};
 ghost use mir.Val.{toZ, ofZ};
 ghost use Rattle.int64.specs.Sign as Sign;
+ghost use Rattle.int64.specs.Patterns.{bitsOf};
 
 // The number that a pattern stands for.
 pub fn signed(p: u64) -> i64
@@ -54,7 +55,7 @@ pub fn size(p: u64) -> u64
 
 // The pattern of m, or of -m.
 pub fn with_sign(neg: bool, m: u64) -> u64
-    ensures { λ r. ⌜ r ≡ Sign.bitsOf neg m ⌝ }
+    ensures { λ r. ⌜ r ≡ bitsOf neg m ⌝ }
 {
     if neg {
         std::num::wrapping_sub_u64(0, m)

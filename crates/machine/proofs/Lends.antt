@@ -1,23 +1,20 @@
--- Lent lists of pairs do as the values that they lend do: `lent-run`. Assumes nothing.
-use mathlib.Core.Path.{_≡_, refl, sym, ap, subst, _∙_, fun-ext}
+-- Lent lists of pairs do as the values that they lend do: `lent-run`.
+use mathlib.Core.Path.{_≡_, refl, sym, ap, _∙_, fun-ext}
 use mathlib.Core.Bool.{Bool, true, false, cond}
 use mathlib.Core.List.{List}
-use Prim.Native.Nat.{ℕ, zero, suc, _≤_, _<_, _^_, min}
+use Prim.Native.Nat.{ℕ, zero, suc, _<_}
 use native.Mathlib.Omega.{arith}
 use lib.Dec.{ltb, eqb}
-use lib.IntN.{ℤ}
 use lib.ListN.{length, getD, set, length-set}
 use lib.Seq.{getD-set-same, getD-set-other}
-use borrow.Author.Tests.{lt-ltb, le-ltb, ltb-true, ltb-false, eqb-true, eqb-false}
-use Rattle.decode.specs.Decode.{decodeOf}
-use Rattle.value.specs.Value.{Datum, nil, kindOf, payloadOf, well, ofPair}
-use Rattle.value.specs.Answer.{Result, is, fault}
+use borrow.Author.Tests.{lt-ltb, ltb-true, eqb-true, eqb-false}
+use Rattle.value.specs.Value.{Datum, kindOf, payloadOf}
+use Rattle.value.specs.Answer.{is}
 use Rattle.value.proofs.RoundTrip.{Holds, pair-back}
-use Rattle.effect.specs.Effect.{Effect, size, held, ofRead}
-use Rattle.machine.specs.Step.{Next, go, put, stop, settleOf, decodedOf, wordOf, After, after, lent, stepOf}
-use Rattle.machine.specs.Run.{Out, out, ran, runFrom}
+use Rattle.effect.specs.Effect.{size, held}
+use Rattle.machine.specs.Step.{Next, go, put, stop, wordEffect, lent, stepOf}
+use Rattle.machine.specs.Run.{Out, out, runFrom}
 use Rattle.machine.specs.Datums.{valueAt, nextOf, End, end, valuesFrom}
-use Rattle.machine.specs.declared.step.Stepped.{Stepped}
 use Rattle.ops.proofs.Closed.{Held}
 use Rattle.machine.proofs.RunFacts.{step-then-run, step-then-stop}
 use Rattle.machine.proofs.Written.{Put, fine-word, settled}
@@ -75,12 +72,12 @@ module _ {ks ps : List ℕ} {rs : List Datum} (l : Lends ks ps rs) (d : ℕ) (v 
 
 module _ {ks ps sks sps : List ℕ} {rs ss : List Datum} (l : Lends ks ps rs) (m : Lends sks sps ss) where
   pub same-step : (ws : List ℕ) (at : ℕ) → stepOf ws sks sps at ks ps ≡ lent ks ps (nextOf ws ss at rs)
-  unfolding stepOf wordOf nextOf
+  unfolding stepOf nextOf
   same-step ws at = rw (l .count, fun-ext (l .reads), fun-ext (m .reads))
 
   pub same-put : (ws : List ℕ) (at : ℕ) → Put (length rs) (nextOf ws ss at rs)
   unfolding nextOf
-  same-put ws at = settled (length ws) (length rs) at (decodedOf (valueAt rs) (valueAt ss) (decodeOf (getD ws at 0))) (fine-word (valueAt rs) (valueAt ss) (l .fine) (m .fine) (getD ws at 0))
+  same-put ws at = settled (length ws) (length rs) at (wordEffect (valueAt rs) (valueAt ss) (getD ws at 0)) (fine-word (valueAt rs) (valueAt ss) (l .fine) (m .fine) (getD ws at 0))
 
 -- ---- a run: the same report, and the lists at the end lend the values at the end
 

@@ -1,8 +1,8 @@
--- Two lists of well-formed pairs lend the values that they hold (`lends`), so a run over lent lists is the run over values (`run-is`). Assumes nothing.
-use mathlib.Core.Path.{_≡_, refl, sym, ap, _∙_}
+-- Two lists of well-formed pairs lend the values that they hold (`lends`), so a run over lent lists is the run over values (`run-is`).
+use mathlib.Core.Path.{_≡_, refl, sym, _∙_}
 use mathlib.Core.Bool.{Bool, true, false, cond}
-use mathlib.Core.List.{List, [], _∷_}
-use Prim.Native.Nat.{ℕ, zero, suc, _≤_, _<_, _^_, min}
+use mathlib.Core.List.{List}
+use Prim.Native.Nat.{ℕ, _≤_, _<_, _^_}
 use native.Mathlib.Omega.{arith}
 use lib.Dec.{ltb, eqb}
 use lib.ListN.{length, getD}
@@ -11,8 +11,8 @@ use mir.Facts.{sfits-toZ}
 use borrow.Author.Tests.{lt-ltb, le-ltb, ltb-true, ltb-false}
 use Rattle.faults.specs.Numbers.{outOfRange}
 use Rattle.int64.proofs.sign.Laws.{never}
-use Rattle.value.specs.Value.{Datum, nil, Read, well, ill, ofPair, isWell, allWell, datumOf, datums}
-use Rattle.value.specs.Answer.{Result, is, fault}
+use Rattle.value.specs.Value.{Read, well, ill, ofPair, isWell, allWell, datumOf, datums}
+use Rattle.value.specs.Answer.{is, fault}
 use Rattle.value.proofs.PairLaws.{well-at, datums-length, datum-at}
 use Rattle.value.proofs.RoundTrip.{Holds}
 use Rattle.effect.specs.Effect.{size, held, ofRead}

@@ -1,24 +1,19 @@
--- What follows from the definition of a run: it is determined, it is a step and then a run, and a register that no word writes keeps its contents. Assumes nothing.
+-- What follows from the definition of a run: it is determined, it is a step and then a run, and a register that no word writes keeps its contents.
 use mathlib.Core.Path.{_≡_, refl, sym, _∙_}
-use mathlib.Core.Bool.{Bool, true, false, cond}
 use mathlib.Core.List.{List}
 use Prim.Native.Nat.{ℕ, zero, suc, _<_}
-use native.Mathlib.Omega.{arith}
 use lib.Dec.{ltb}
-use lib.IntN.{ℤ, pos, negsuc, _+ℤ_}
-use lib.Dec.{leb}
 use lib.ListN.{length, getD, set}
 use lib.Seq.{getD-set-other}
-use borrow.Author.Tests.{lt-ltb, ltb-true}
-use Rattle.faults.specs.Numbers.{outOfRange}
-use Rattle.value.specs.Value.{Datum, nil, bool, int, float, kindOf, payloadOf}
-use Rattle.value.specs.Answer.{Result, is, fault}
-use Rattle.decode.specs.Decode.{decodeOf}
-use Rattle.effect.specs.Effect.{Effect, write, branch, next, halt, size, held}
-use Rattle.machine.specs.Step.{Next, go, put, stop, landAt, landOf, branchOf, putOf, settleOf, decodedOf, wordOf, After, after, lent, stepOf}
-use Rattle.machine.specs.Run.{Out, out, ran, runFrom, runOf}
+use borrow.Author.Tests.{lt-ltb}
+use Rattle.value.specs.Value.{kindOf, payloadOf}
+use Rattle.value.specs.Answer.{Result, is}
+use Rattle.effect.specs.Effect.{write, size, held}
+use Rattle.machine.specs.Step.{Next, go, put, stop, settleOf, wordEffect, after, lent, stepOf}
+use Rattle.machine.specs.Run.{Out, out, ran, runFrom}
 use Rattle.machine.specs.declared.step.Stepped.{Stepped}
 use Rattle.machine.specs.declared.run.Ran.{Ran}
+use Rattle.machine.proofs.Outcomes.{picked, settles}
 use Rattle.machine.proofs.StepLaws.{stop-keeps}
 
 -- ---- one outcome only
@@ -42,7 +37,7 @@ module _ (ws sks sps ks ps : List ℕ) (n s at : ℕ) (h : at < length ws) {ks�
 
 -- no word of the code asks for a write to r, whatever it reads
 pub record Spares (ws : List ℕ) (r : ℕ) : Type 0 where
-  pub spares : (at : ℕ) (reg slot : ℕ → Result) (d : ℕ) (x : Result) → decodedOf reg slot (decodeOf (getD ws at 0)) ≡ write d x → d ≡ r → ⊥
+  pub spares : (at : ℕ) (reg slot : ℕ → Result) (d : ℕ) (x : Result) → wordEffect reg slot (getD ws at 0) ≡ write d x → d ≡ r → ⊥
 
 -- what both lists hold at r is what it was
 pub record Kept (r : ℕ) (ks ps ks′ ps′ : List ℕ) : Type 0 where
@@ -63,38 +58,6 @@ Elsewhere r (go p) = Unit {0}
 Elsewhere r (put p d v) = d ≡ r → ⊥
 Elsewhere r (stop n) = Unit {0}
 
-puts : (r room at d : ℕ) (x : Result) → (d ≡ r → ⊥) → Elsewhere r (cond (ltb d room) (putOf at d x) (stop outOfRange))
-puts r room at d x h = by (ltb d room) x
-  where
-    by : (b : Bool) (x : Result) → Elsewhere r (cond b (putOf at d x) (stop outOfRange))
-    by true (is v) = h
-    by true (fault n) = tt
-    by false x = tt
-
-lands : (r len : ℕ) (z : ℤ) → Elsewhere r (landAt len z)
-lands r len (negsuc n) = tt
-lands r len (pos n) = by (leb n len)
-  where
-    by : (b : Bool) → Elsewhere r (cond b (go n) (stop outOfRange))
-    by true = tt
-    by false = tt
-
-settles : (r len room at : ℕ) (e : Effect) → ((d : ℕ) (x : Result) → e ≡ write d x → d ≡ r → ⊥) → Elsewhere r (settleOf len room at e)
-unfolding landOf
-settles r len room at (write d x) h = puts r room at d x (h d x refl)
-settles r len room at (branch z (is nil)) h = tt
-settles r len room at (branch z (is (bool true))) h = lands r len (pos (suc at) +ℤ z)
-settles r len room at (branch z (is (bool false))) h = tt
-settles r len room at (branch z (is (int n))) h = tt
-settles r len room at (branch z (is (float p))) h = tt
-settles r len room at (branch z (fault n)) h = tt
-settles r len room at next h = tt
-settles r len room at (halt n) h = tt
-
-either : (b : Bool) {r : ℕ} {ks ps : List ℕ} {x y : Out} → Keeps r ks ps x → Keeps r ks ps y → Keeps r ks ps (cond b x y)
-either true h k = h
-either false h k = k
-
 -- what is kept in a step and then in the rest is kept
 onward : {r : ℕ} {ks ps ks′ ps′ : List ℕ} (o : Out) → Kept r ks ps ks′ ps′ → Keeps r ks′ ps′ o → Keeps r ks ps o
 onward (out q ks″ ps″) k h = record { keeps = record { kind = h .keeps .kind ∙ k .kind; payload = h .keeps .payload ∙ k .payload } }
@@ -111,10 +74,11 @@ module _ (ws sks sps : List ℕ) (r : ℕ) (free : Spares ws r) where
     turn (stop e) h = record { keeps = same }
 
   pub untouched : (n s at : ℕ) (ks ps : List ℕ) → Keeps r ks ps (runFrom ws sks sps n s at ks ps)
-  unfolding runFrom stepOf wordOf
-  untouched zero s at ks ps = either (ltb at (length ws)) (record { keeps = same }) (record { keeps = same })
+  unfolding runFrom stepOf
+  untouched zero s at ks ps = picked (Keeps r ks ps) (ltb at (length ws)) (record { keeps = same }) (record { keeps = same })
   untouched (suc n) s at ks ps =
-      either (ltb at (length ws))
-      (turn n s at ks ps (λ p ks ps. untouched n (suc s) p ks ps) (settleOf (length ws) (size ks ps) at (wordOf ks ps sks sps (getD ws at 0)))
-      (settles r (length ws) (size ks ps) at (wordOf ks ps sks sps (getD ws at 0)) (free .spares at (held ks ps) (held sks sps))))
+      picked (Keeps r ks ps) (ltb at (length ws))
+      (turn n s at ks ps (λ p ks ps. untouched n (suc s) p ks ps) (settleOf (length ws) (size ks ps) at (wordEffect (held ks ps) (held sks sps) (getD ws at 0)))
+      (settles (Elsewhere r) (λ p. tt) (λ n. tt) (length ws) (size ks ps) at (wordEffect (held ks ps) (held sks sps) (getD ws at 0))
+      (λ d v q l. free .spares at (held ks ps) (held sks sps) d (is v) q)))
       (record { keeps = same })

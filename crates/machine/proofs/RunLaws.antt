@@ -1,16 +1,15 @@
--- A run, turn by turn: what is left of it gives the whole answer. And its checks before the first step. Assumes nothing.
+-- A run, turn by turn: what is left of it gives the whole answer. And its checks before the first step.
 use mathlib.Core.Path.{_≡_, sym, ap, subst}
-use mathlib.Core.Bool.{Bool, true, false, not, cond, _&&_}
+use mathlib.Core.Bool.{Bool, true, false, not}
 use mathlib.Core.List.{List}
 use Prim.Native.Nat.{ℕ, zero, suc, _+_, _-_, _≤_, _<_}
 use native.Mathlib.Omega.{arith}
 use native.Mathlib.Numerals.{add-one}
-use lib.Dec.{ltb, leb}
 use lib.ListN.{length, take, drop}
 use borrow.Author.Tests.{lt-ltb, le-ltb, le-leb, lt-leb, not-true, not-false}
 use Rattle.faults.specs.Numbers.{budgetSpent, outOfRange, illFormed}
 use Rattle.value.specs.Value.{allWell}
-use Rattle.machine.specs.Step.{After, after, stepOf}
+use Rattle.machine.specs.Step.{after, stepOf}
 use Rattle.machine.specs.Run.{Out, out, ran, runFrom, runOf, runPartOf}
 use Rattle.machine.specs.declared.step.Stepped.{Stepped}
 

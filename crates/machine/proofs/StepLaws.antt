@@ -1,41 +1,41 @@
--- What `step` has to show, over plain values: where a taken branch lands, and what a write leaves. Assumes nothing.
+-- What `step` has to show, over plain values: where a taken branch lands, and what a write leaves.
 use mathlib.Core.Path.{_≡_, refl, sym, subst, ap, _∙_}
-use mathlib.Core.Bool.{Bool, true, false, cond}
+use mathlib.Core.Bool.{Bool, true, false}
 use mathlib.Core.List.{List}
 use Prim.Native.Nat.{ℕ, suc, _+_, _-_, _≤_, _<_}
 use native.Mathlib.Omega.{arith}
 use native.Mathlib.Numerals.{add-one}
-use lib.Dec.{ltb, leb}
-use lib.IntN.{ℤ, pos, negsuc, _+ℤ_}
+use lib.Dec.{ltb}
+use lib.IntN.{ℤ, pos, negsuc}
 use lib.Ieee.{Float}
 use lib.ListN.{length, getD, set}
 use lib.Signed.{mag, ltZ}
 use mir.Syntax.{w32, w64}
 use mir.Val.{SFits, toZ, ofZ}
-use mir.Facts.{toZ-ofZ}
 use borrow.Author.Tests.{lt-ltb, le-ltb, le-leb, lt-leb, ltb-true}
 use Rattle.faults.specs.Numbers.{undecoded, wrongKind, outOfRange}
+use Rattle.int64.proofs.sign.Laws.{never}
 use Rattle.effect.proofs.EffectLaws.{widens, widened}
 use Rattle.decode.specs.Decode.{decodeOf}
 use Rattle.decode.specs.declared.Decoded.{Decoded}
 use Rattle.insns.specs.declared.op.Disp.{Disp}
 use Rattle.insns.specs.declared.op.Op.{Op}
-use Rattle.value.specs.Value.{nil, bool, int, float, meaning, kindOf, payloadOf}
+use Rattle.value.specs.Value.{meaning, kindOf, payloadOf}
 use Rattle.value.specs.declared.Value.the-variants as C
-use Rattle.value.specs.Answer.{Result, is, fault, resultOf}
+use Rattle.value.specs.Answer.{Result, resultOf}
 use Rattle.value.specs.declared.Value.{Value}
 use Rattle.value.specs.declared.answer.Answer.{Answer}
 use Rattle.value.specs.declared.answer.Answer.the-variants as A
-use Rattle.effect.specs.Effect.{Effect, halt, asked, size, held, effectOf}
+use Rattle.effect.specs.Effect.{Effect, halt, size, held, effectOf}
+use Rattle.effect.specs.Forms.{asked}
 use Rattle.effect.specs.declared.Effect as E
 use Rattle.effect.specs.declared.Effect.the-variants as Fx
-use Rattle.machine.specs.Step.{Next, go, put, stop, landAt, landOf, toldOf, putOf, branchOf, writeOf, settleOf, decodedOf, wordOf, After, after, lent, stepOf}
+use Rattle.machine.specs.Step.{Next, go, put, stop, landOf, branchOf, writeOf, settleOf, decodedOf, wordEffect, After, after, lent, stepOf}
+use Rattle.machine.specs.Parts.{toldOf}
 use Rattle.machine.specs.declared.step.Stepped.{Stepped}
+use Rattle.machine.proofs.Outcomes.{branches}
 
 -- ---- where a branch lands
-
-never : {A : Type 0} → true ≡ false → A
-never e = absurd (let z : _≡_ {A = ℕ} 0 1 = cc in omega arith)
 
 module _ (len at : ℕ) (h : at < len) where
   land-back : (z : ℤ) {m : ℕ} → m ≡ mag z → ltZ z (pos 0) ≡ true → m ≤ at → Stepped.Moved (at - m) ≡ toldOf (landOf len at z)
@@ -133,22 +133,8 @@ module _ (len at : ℕ) (z : ℤ) {a : Answer} where
 
 -- a branch writes nothing
 module _ (ks ps : List ℕ) where
-  lands : (len : ℕ) (z : ℤ) → lent ks ps (landAt len z) ≡ after (toldOf (landAt len z)) ks ps
-  lands len (negsuc n) = refl
-  lands len (pos n) = go′ (leb n len)
-    where
-      go′ : (b : Bool) → lent ks ps (cond b (go n) (stop outOfRange)) ≡ after (toldOf (cond b (go n) (stop outOfRange))) ks ps
-      go′ true = refl
-      go′ false = refl
-
   keeps : (len at : ℕ) (z : ℤ) (r : Result) → lent ks ps (branchOf len at z r) ≡ after (toldOf (branchOf len at z r)) ks ps
-  unfolding landOf
-  keeps len at z (is nil) = refl
-  keeps len at z (is (bool true)) = lands len (pos (suc at) +ℤ z)
-  keeps len at z (is (bool false)) = refl
-  keeps len at z (is (int n)) = refl
-  keeps len at z (is (float p)) = refl
-  keeps len at z (fault n) = refl
+  keeps len at z r = branches (λ (x : Next). lent ks ps x ≡ after (toldOf x) ks ps) (λ p. refl) (λ n. refl) len at z r
 
   -- ---- an effect carried out
 
@@ -168,23 +154,25 @@ module _ (ks ps : List ℕ) where
   -- ---- a word, and the step at a position
 
   module _ (sks sps : List ℕ) where
-    pub word-bad : (w : ℕ) {d : Decoded} → d ≡ decodeOf w → d ≡ Decoded.Bad → halt undecoded ≡ wordOf ks ps sks sps w
-    unfolding wordOf
-    word-bad w e f = ap (decodedOf (held ks ps) (held sks sps)) (sym f ∙ e)
-
-    pub word-is : (w : ℕ) {d : Decoded} {i : Op} {x : Effect} → d ≡ decodeOf w → d ≡ Decoded.Is i → x ≡ effectOf (held ks ps) (held sks sps) i → x ≡ wordOf ks ps sks sps w
-    unfolding wordOf
-    word-is w e f q = q ∙ ap (decodedOf (held ks ps) (held sks sps)) (sym f ∙ e)
-
-    pub step-is : (ws : List ℕ) (at : ℕ) {x : After} {f : Effect} → f ≡ wordOf ks ps sks sps (getD ws at 0) → x ≡ lent ks ps (settleOf (length ws) (size ks ps) at f) → x ≡ stepOf ws sks sps at ks ps
+    pub step-is : (ws : List ℕ) (at : ℕ) {x : After} {f : Effect} → f ≡ wordEffect (held ks ps) (held sks sps) (getD ws at 0)
+        → x ≡ lent ks ps (settleOf (length ws) (size ks ps) at f) → x ≡ stepOf ws sks sps at ks ps
     unfolding stepOf
     step-is ws at e q = rw e at q
+
+module _ (reg slot : ℕ → Result) (w : ℕ) {d : Decoded} (e : d ≡ decodeOf w) where
+  pub word-bad : d ≡ Decoded.Bad → halt undecoded ≡ wordEffect reg slot w
+  unfolding wordEffect
+  word-bad f = ap (decodedOf reg slot) (sym f ∙ e)
+
+  pub word-is : {i : Op} {x : Effect} → d ≡ Decoded.Is i → x ≡ effectOf reg slot i → x ≡ wordEffect reg slot w
+  unfolding wordEffect
+  word-is f q = q ∙ ap (decodedOf reg slot) (sym f ∙ e)
 
 -- ---- a stopping step writes nothing
 
 pub stop-keeps : (ws sks sps ks ps : List ℕ) (at n : ℕ) {ks′ ps′ : List ℕ} → stepOf ws sks sps at ks ps ≡ after (Stepped.Stopped n) ks′ ps′ → (ks′ ≡ ks) × (ps′ ≡ ps)
 unfolding stepOf
-stop-keeps ws sks sps ks ps at n {ks′} {ps′} e = by (settleOf (length ws) (size ks ps) at (wordOf ks ps sks sps (getD ws at 0))) e
+stop-keeps ws sks sps ks ps at n {ks′} {ps′} e = by (settleOf (length ws) (size ks ps) at (wordEffect (held ks ps) (held sks sps) (getD ws at 0))) e
   where
     by : (x : Next) → lent ks ps x ≡ after (Stepped.Stopped n) ks′ ps′ → (ks′ ≡ ks) × (ps′ ≡ ps)
     by (go p) e = (cc, cc)

@@ -1,24 +1,20 @@
--- What a step writes is a register's, and has a lent form that reads back as itself. Assumes nothing.
-use mathlib.Core.Path.{_≡_, refl, sym, subst}
+-- What a step writes is a register's, and has a lent form that reads back as itself.
+use mathlib.Core.Path.{_≡_, refl}
 use mathlib.Core.Bool.{Bool, true, false, cond}
-use mathlib.Core.List.{List}
-use Prim.Native.Nat.{ℕ, suc, _/_, _%_, _*_, _-_, _≤_, _<_, _^_}
+use Prim.Native.Nat.{ℕ, _*_, _-_, _<_, _^_}
 use native.Mathlib.Nat.{mod-lt, lt-of-le-of-lt}
 use native.Mathlib.Omega.{arith}
-use lib.Dec.{ltb, leb, eqb, lit<}
-use lib.IntN.{ℤ, pos, negsuc, _+ℤ_, _-ℤ_, _*ℤ_}
-use lib.Signed.{mag, shrZ, mag-shr}
+use lib.Dec.{ltb, eqb, lit<}
+use lib.IntN.{ℤ, pos, _*ℤ_}
+use lib.Signed.{mag-shr}
 use mir.Syntax.{w64}
-use mir.Val.{SFits, Fits, toZ, ofZ}
+use mir.Val.{SFits, ofZ}
 use mir.Facts.{sfits-toZ}
-use borrow.Author.Tests.{ltb-true}
-use Rattle.faults.specs.Numbers.{badShift, outOfRange, notRun}
+use Rattle.faults.specs.Numbers.{badShift}
 use Rattle.int64.specs.Int as I
-use Rattle.int64.specs.Exact as Exact
 use Rattle.int64.specs.Mask.{maskOf}
 use Rattle.int64.specs.declared.Op as IntOp
 use Rattle.int64.specs.declared.Op.the-variants as IO
-use Rattle.int64.specs.declared.exact.Arith.the-variants as B
 use Rattle.int64.proofs.Answers.{floor-is}
 use Rattle.float.specs.declared.Op as FloatOp
 use Rattle.float.specs.declared.Op.the-variants as FO
@@ -36,8 +32,11 @@ use Rattle.value.specs.Value.{Datum, nil, bool, int, float}
 use Rattle.value.specs.Answer.{Result, is, fault}
 use Rattle.ops.specs.Arith.{fromInt, arithOf, wholeOf}
 use Rattle.value.proofs.RoundTrip.{Holds}
-use Rattle.effect.specs.Effect.{Effect, write, branch, next, halt, both, literal, mask, rawOf, inverted, threeKind, arithKind, shiftKind, bareOf, twoOf, slotOf, threeOf, effectOf}
-use Rattle.machine.specs.Step.{Next, go, put, stop, landAt, landOf, branchOf, putOf, settleOf, decodedOf}
+use Rattle.effect.specs.Effect.{Effect, write, branch, next, halt, both, literal, mask, rawOf, inverted, effectOf}
+use Rattle.effect.specs.Forms.{threeKind, arithKind, shiftKind}
+use Rattle.effect.proofs.EffectLaws.{three-form, shift-form, arith-form, if-form, jump-form, jump-imm-form}
+use Rattle.machine.specs.Step.{Next, go, put, stop, settleOf, decodedOf, wordEffect}
+use Rattle.machine.proofs.Outcomes.{picked, settles}
 use Rattle.ops.proofs.Closed.{Held, picks, exact, as-floats, negates, binaries}
 
 -- ---- an effect's answer
@@ -47,10 +46,6 @@ Fine (write d r) = Held r
 Fine (branch z r) = Unit {0}
 Fine next = Unit {0}
 Fine (halt n) = Unit {0}
-
-if-run : (b : Bool) (e : Effect) → Fine e → Fine (cond b (halt notRun) e)
-if-run true e h = tt
-if-run false e h = h
 
 inverts : (r : Result) → Held (inverted r)
 unfolding inverted
@@ -81,9 +76,9 @@ sums-imm i f (float p) z h = as-floats f (float p) (int z)
 ariths-imm : (k : Arith) (x : Result) (z : ℤ) → Held (both (arithKind k) x (literal z))
 unfolding both I.operate
 ariths-imm k (fault n) z = record { back = tt }
-ariths-imm Arith.Plus (is v) z = sums-imm IO.Add FO.Add v z (λ a. exact (Exact.arith B.Add a z))
-ariths-imm Arith.Minus (is v) z = sums-imm IO.Sub FO.Sub v z (λ a. exact (Exact.arith B.Sub a z))
-ariths-imm Arith.Times (is v) z = sums-imm IO.Mul FO.Mul v z (λ a. exact (Exact.arith B.Mul a z))
+ariths-imm Arith.Plus (is v) z = sums-imm IO.Add FO.Add v z (λ a. exact (a +ℤ z))
+ariths-imm Arith.Minus (is v) z = sums-imm IO.Sub FO.Sub v z (λ a. exact (a -ℤ z))
+ariths-imm Arith.Times (is v) z = sums-imm IO.Mul FO.Mul v z (λ a. exact (a *ℤ z))
 
 -- a shift by 64 or more is a fault, and any other amount is an Int
 shl : (a : ℤ) (n : ℕ) → SFits w64 a → Held (fromInt (I.operate IO.Shl a (pos n)))
@@ -116,7 +111,6 @@ shifts-imm Shift.Right (is (int a)) n h = shr a n (h .back)
 
 module _ (reg slot : ℕ → Result) (hr : (r : ℕ) → Held (reg r)) (hs : (r : ℕ) → Held (slot r)) where
   fine : (w : ℕ) (i : Op) → decodeOf w ≡ Decoded.Is i → Fine (effectOf reg slot i)
-  unfolding threeOf
   fine w (Op.Bare Bare.Panic) e = tt
   fine w (Op.Bare Bare.Breakpoint) e = tt
   fine w (Op.Bare Bare.Nop) e = tt
@@ -132,19 +126,19 @@ module _ (reg slot : ℕ → Result) (hr : (r : ℕ) → Held (reg r)) (hs : (r 
   fine w (Op.Slot Slot.GetGlobal d a) e = tt
   fine w (Op.Slot Slot.SetGlobal d a) e = tt
   fine w (Op.Slot Slot.ArrNew d a) e = tt
-  fine w (Op.Three k d a b) e = if-run (eqb (threeKind k) 0) (write d (both (threeKind k) (reg a) (reg b))) (boths (threeKind k) (reg a) (reg b) (hr a) (hr b))
-  fine w (Op.Shift k d a n) e = shifts-imm k (reg a) n (hr a)
+  fine w (Op.Three k d a b) e = rw three-form (picked Fine (eqb (threeKind k) 0) tt (boths (threeKind k) (reg a) (reg b) (hr a) (hr b)))
+  fine w (Op.Shift k d a n) e = rw shift-form (shifts-imm k (reg a) n (hr a))
   fine w (Op.BitAndMask d a lo len) e = boths 8 (reg a) (mask lo len) (hr a) (masks lo len)
   fine w (Op.RshiftMask d a n lo len) e = boths 8 (both 12 (reg a) (literal (pos n))) (mask lo len) (shifts-imm Shift.Right (reg a) n (hr a)) (masks lo len)
-  fine w (Op.Arith k d a z) e = ariths-imm k (reg a) (z .n)
+  fine w (Op.Arith k d a z) e = rw arith-form (ariths-imm k (reg a) (z .n))
   fine w (Op.ClosNew d fun num) e = tt
   fine w (Op.ClosSet clos src idx) e = tt
   fine w (Op.ClosGet d idx) e = tt
   fine w (Op.One k d) e = tt
   fine w (Op.Wide k d val class) e = tt
-  fine w (Op.If k a z) e = tt
-  fine w (Op.Jump k a b z) e = tt
-  fine w (Op.JumpImm k a n z) e = tt
+  fine w (Op.If k a z) e = rw if-form tt
+  fine w (Op.Jump k a b z) e = rw jump-form tt
+  fine w (Op.JumpImm k a n z) e = rw jump-imm-form tt
   fine w (Op.Jmp z) e = tt
   fine w (Op.Call k start argc cache) e = tt
   fine w (Op.CallHost host start argc) e = tt
@@ -156,7 +150,8 @@ module _ (reg slot : ℕ → Result) (hr : (r : ℕ) → Held (reg r)) (hs : (r 
   fines w (Decoded.Is i) e = fine w i e
   fines w Decoded.Bad e = tt
 
-  pub fine-word : (w : ℕ) → Fine (decodedOf reg slot (decodeOf w))
+  pub fine-word : (w : ℕ) → Fine (wordEffect reg slot w)
+  unfolding wordEffect
   fine-word w = fines w (decodeOf w) refl
 
 -- ---- what is put
@@ -166,30 +161,5 @@ Put room (go p) = Unit {0}
 Put room (put p d v) = (d < room) × Holds v
 Put room (stop n) = Unit {0}
 
-puts : (room at d : ℕ) (r : Result) → Held r → Put room (cond (ltb d room) (putOf at d r) (stop outOfRange))
-puts room at d r h = by (ltb d room) refl r h
-  where
-    by : (b : Bool) → ltb d room ≡ b → (r : Result) → Held r → Put room (cond b (putOf at d r) (stop outOfRange))
-    by true e (is v) h = (ltb-true d room e, h .back)
-    by true e (fault n) h = tt
-    by false e r h = tt
-
-lands : (room len : ℕ) (z : ℤ) → Put room (landAt len z)
-lands room len (negsuc n) = tt
-lands room len (pos n) = by (leb n len)
-  where
-    by : (b : Bool) → Put room (cond b (go n) (stop outOfRange))
-    by true = tt
-    by false = tt
-
 pub settled : (len room at : ℕ) (e : Effect) → Fine e → Put room (settleOf len room at e)
-unfolding landOf
-settled len room at (write d r) h = puts room at d r h
-settled len room at (branch z (is nil)) h = tt
-settled len room at (branch z (is (bool true))) h = lands room len (pos (suc at) +ℤ z)
-settled len room at (branch z (is (bool false))) h = tt
-settled len room at (branch z (is (int n))) h = tt
-settled len room at (branch z (is (float p))) h = tt
-settled len room at (branch z (fault n)) h = tt
-settled len room at next h = tt
-settled len room at (halt n) h = tt
+settled len room at e f = settles (Put room) (λ p. tt) (λ n. tt) len room at e (λ d v q l. (l, (rw q at f) .back))

@@ -1,4 +1,5 @@
--- The same machine over a list of values: what `agree` reasons about. `proofs/Lends.antt` shows that the lent one does as it does.
+-- Plumbing: the same machine over a list of values in place of kinds and payloads, which is what the crate `claim` reasons about.
+-- proofs/Lends shows that the lent one does as it does.
 use Prim.Native.Nat.{ℕ, zero, suc}
 use mathlib.Core.Bool.{cond}
 use mathlib.Core.List.{List}
@@ -7,18 +8,15 @@ use lib.ListN.{length, getD, set}
 use Rattle.faults.specs.Numbers.{budgetSpent, outOfRange}
 use Rattle.value.specs.Value.{Datum, nil}
 use Rattle.value.specs.Answer.{Result, is, fault}
-use Rattle.decode.specs.Decode.{decodeOf}
-use Rattle.machine.specs.Step.{Next, go, put, stop, settleOf, decodedOf}
+use Rattle.machine.specs.Step.{Next, go, put, stop, settleOf, wordEffect}
 use Rattle.machine.specs.Run.{ran}
 use Rattle.machine.specs.declared.run.Ran.{Ran}
-
--- ---- the run
 
 unfoldable pub valueAt : List Datum → ℕ → Result
 valueAt rs r = cond (ltb r (length rs)) (is (getD rs r nil)) (fault outOfRange)
 
 unfoldable pub nextOf : List ℕ → List Datum → ℕ → List Datum → Next
-nextOf ws ss at rs = settleOf (length ws) (length rs) at (decodedOf (valueAt rs) (valueAt ss) (decodeOf (getD ws at 0)))
+nextOf ws ss at rs = settleOf (length ws) (length rs) at (wordEffect (valueAt rs) (valueAt ss) (getD ws at 0))
 
 pub data End : Type 0 where
   end : Ran → List Datum → End

@@ -13,11 +13,12 @@ use value::payload_of;
 ghost use mathlib.Core.Path.{_≡_};
 ghost use Prim.Native.Nat.{_<_};
 ghost use lib.ListN.{length};
-ghost use Rattle.value.specs.Value.{meaning};
 ghost use Rattle.value.specs.Answer.{resultOf};
-ghost use Rattle.effect.specs.Effect.{asked, size};
+ghost use Rattle.effect.specs.Effect.{size, held};
+ghost use Rattle.effect.specs.Forms.{asked};
 ghost use Rattle.machine.specs.Step as St;
 ghost use Rattle.machine.specs.Step.{after, lent};
+ghost use Rattle.machine.specs.Parts.{toldOf};
 
 // Moved to a position, or stopped with a number.
 pub enum Stepped {
@@ -25,10 +26,10 @@ pub enum Stepped {
     Stopped(u8),
 }
 
-// A taken branch. The magnitude of a negative z is -z - 1, so that the target at + 1 + z is at - m.
+// A taken branch. `magnitude` of a negative z is -z - 1, so that its target at + 1 + z is at - m, and no sum here can wrap.
 fn land(len: usize, at: usize, z: Disp) -> Stepped
     requires { ⌜ at < len ⌝ }
-    ensures { λ r. ⌜ r ≡ St.toldOf (St.landOf len at (z .by)) ⌝ }
+    ensures { λ r. ⌜ r ≡ toldOf (St.landOf len at (z .by)) ⌝ }
 {
     let n = z.by as i64;
     let m = magnitude(n) as usize;
@@ -44,10 +45,10 @@ fn land(len: usize, at: usize, z: Disp) -> Stepped
     Stepped::Stopped(faults::OUT_OF_RANGE)
 }
 
-// A branch by an answer.
+// A branch by an answer: a fault, and 20 for what is no Bool, come before 26 for the target, which only a taken branch has.
 fn branch(len: usize, at: usize, z: Disp, a: Answer) -> Stepped
     requires { ⌜ at < len ⌝ }
-    ensures { λ r. ⌜ r ≡ St.toldOf (St.branchOf len at (z .by) (resultOf a)) ⌝ }
+    ensures { λ r. ⌜ r ≡ toldOf (St.branchOf len at (z .by) (resultOf a)) ⌝ }
 {
     match a {
         Answer::Is(v) => match v {
@@ -66,7 +67,7 @@ fn branch(len: usize, at: usize, z: Disp, a: Answer) -> Stepped
     }
 }
 
-// An answer goes into a register.
+// An answer goes into a register. 26 for the register comes before the operation's fault, and a fault writes nothing.
 fn put(
     len: usize,
     at: usize,
@@ -76,7 +77,8 @@ fn put(
     payloads: &mut [u64],
 ) -> Stepped
     requires { ⌜ at < len ⌝ }
-    ensures { λ r. ⌜ after r (now (kinds .exit)) (now (payloads .exit)) ≡ lent (now (kinds .entry)) (now (payloads .entry)) (St.writeOf (size (now (kinds .entry)) (now (payloads .entry))) at d (resultOf a)) ⌝ }
+    ensures { λ r. ⌜ after r (now (kinds .exit)) (now (payloads .exit))
+        ≡ lent (now (kinds .entry)) (now (payloads .entry)) (St.writeOf (size (now (kinds .entry)) (now (payloads .entry))) at d (resultOf a)) ⌝ }
 {
     if room(kinds, payloads) <= d {
         return Stepped::Stopped(faults::OUT_OF_RANGE);
@@ -91,9 +93,11 @@ fn put(
     }
 }
 
+// An effect carried out.
 fn settle(len: usize, at: usize, e: Effect, kinds: &mut [u8], payloads: &mut [u64]) -> Stepped
     requires { ⌜ at < len ⌝ }
-    ensures { λ r. ⌜ after r (now (kinds .exit)) (now (payloads .exit)) ≡ lent (now (kinds .entry)) (now (payloads .entry)) (St.settleOf len (size (now (kinds .entry)) (now (payloads .entry))) at (asked e)) ⌝ }
+    ensures { λ r. ⌜ after r (now (kinds .exit)) (now (payloads .exit))
+        ≡ lent (now (kinds .entry)) (now (payloads .entry)) (St.settleOf len (size (now (kinds .entry)) (now (payloads .entry))) at (asked e)) ⌝ }
 {
     match e {
         Effect::Write(d, a) => put(len, at, d as usize, a, kinds, payloads),
@@ -103,7 +107,7 @@ fn settle(len: usize, at: usize, e: Effect, kinds: &mut [u8], payloads: &mut [u6
     }
 }
 
-// What the word asks for.
+// What the word asks for: 10 if it does not decode.
 fn word_effect(
     w: u64,
     kinds: &[u8],
@@ -111,7 +115,8 @@ fn word_effect(
     slot_kinds: &[u8],
     slot_payloads: &[u64],
 ) -> Effect
-    ensures { λ r. ⌜ asked r ≡ St.wordOf (now (kinds .entry)) (now (payloads .entry)) (now («slot_kinds» .entry)) (now («slot_payloads» .entry)) w ⌝ }
+    ensures { λ r. ⌜ asked r
+        ≡ St.wordEffect (held (now (kinds .entry)) (now (payloads .entry))) (held (now («slot_kinds» .entry)) (now («slot_payloads» .entry))) w ⌝ }
 {
     let Decoded::Is(i) = decode(w) else {
         return Effect::Halt(faults::UNDECODED);
@@ -119,7 +124,7 @@ fn word_effect(
     effect_of(i, kinds, payloads, slot_kinds, slot_payloads)
 }
 
-// The step at a position of the code.
+// The step at a position of the code. Nothing is written before the word is decoded, its operands read and its faults known.
 pub fn step(
     words: &[u64],
     at: usize,
@@ -129,7 +134,8 @@ pub fn step(
     slot_payloads: &[u64],
 ) -> Stepped
     requires { ⌜ at < length (now words) ⌝ }
-    ensures { λ r. ⌜ after r (now (kinds .exit)) (now (payloads .exit)) ≡ St.stepOf (now (words .entry)) (now («slot_kinds» .entry)) (now («slot_payloads» .entry)) at (now (kinds .entry)) (now (payloads .entry)) ⌝ }
+    ensures { λ r. ⌜ after r (now (kinds .exit)) (now (payloads .exit))
+        ≡ St.stepOf (now (words .entry)) (now («slot_kinds» .entry)) (now («slot_payloads» .entry)) at (now (kinds .entry)) (now (payloads .entry)) ⌝ }
 {
     let e = word_effect(words[at], kinds, payloads, slot_kinds, slot_payloads);
     settle(words.len(), at, e, kinds, payloads)

@@ -2,21 +2,12 @@
 ghost use Prim.Native.Nat.{_≤_};
 ghost use lib.ListN.{length};
 use machine::run::Ran;
+use replay_io::within;
 
 // Room for the largest record.
 const WORDS: usize = 128;
 
 const PAIRS: usize = 32;
-
-// n, or the room where that is less.
-fn within(n: u64, room: usize) -> usize
-    ensures { λ r. ⌜ r ≤ room ⌝ }
-{
-    if n < room as u64 {
-        return n as usize;
-    }
-    room
-}
 
 // The whole from a start, or a part.
 fn ran(

@@ -1,24 +1,35 @@
 // From an opcode and five operands to a word: the fields of a form, and the bits of an operand in its field. A signed operand is the two's
-// complement pattern of 64 bits; an operand that a form does not have is 0.
+// complement pattern of 64 bits; an operand that a form does not have has to be 0, so that only what decoding gives encodes.
 use decode::form::form;
 use insns::Made;
 use insns::bits::signed_bits;
+use insns::fields::HALF_16;
+use insns::fields::HALF_24;
+use insns::fields::HALF_32;
+use insns::fields::SIZE_6;
+use insns::fields::SIZE_8;
+use insns::fields::SIZE_12;
+use insns::fields::SIZE_16;
+use insns::fields::SIZE_24;
+use insns::fields::SIZE_32;
+use insns::fields::SIZE_40;
 use insns::fields::make5;
 use insns::fields::raw_bits;
 use insns::op::Form;
 use insns::op::Imm40;
 ghost use mathlib.Core.Path.{_≡_};
-ghost use Rattle.operands.specs.Encode.{sizeOf, bitsOf, shapes, shapesOf, encodeOf, Narrow};
+ghost use Rattle.operands.specs.Encode.{encodeOf};
+ghost use Rattle.operands.specs.Shapes.{sizeOf, bitsOf, shapes, shapesOf, Narrow};
 
-// A field: so many numbers from 0, a signed one by half its size, or the raw bits of a value.
-pub enum Shape {
-    Plain(u64),
-    Twos(u64),
+// A field: of so many numbers from 0, a signed one by half its size, or the raw bits of a value.
+enum Shape {
+    Unsigned(u64),
+    Signed(u64),
     Raw,
 }
 
 // The fields of a form.
-pub struct Shapes {
+struct Shapes {
     pub a: Shape,
     pub b: Shape,
     pub c: Shape,
@@ -38,24 +49,24 @@ fn five(a: Shape, b: Shape, c: Shape, d: Shape, e: Shape) -> Shapes
     }
 }
 
-// The fields of a form; one that it lacks has one place.
+// The fields of a form; one that it lacks has a single number, 0.
 fn shapes_of(f: Form) -> Shapes
     ensures { λ r. ⌜ r ≡ shapesOf f ⌝ }
 {
-    let none = Shape::Plain(1);
-    let reg = Shape::Plain(65536);
-    let six = Shape::Plain(64);
-    let byte = Shape::Plain(256);
-    let twelve = Shape::Plain(4096);
-    let wide = Shape::Plain(16777216);
-    let lit = Shape::Twos(32768);
-    let near = Shape::Twos(8388608);
-    let far = Shape::Twos(2147483648);
+    let none = Shape::Unsigned(1);
+    let reg = Shape::Unsigned(SIZE_16);
+    let six = Shape::Unsigned(SIZE_6);
+    let byte = Shape::Unsigned(SIZE_8);
+    let twelve = Shape::Unsigned(SIZE_12);
+    let wide = Shape::Unsigned(SIZE_24);
+    let lit = Shape::Signed(HALF_16);
+    let near = Shape::Signed(HALF_24);
+    let far = Shape::Signed(HALF_32);
     match f {
         Form::Bare(_) => five(none, none, none, none, none),
         Form::LoadImm40 => five(reg, Shape::Raw, none, none, none),
         Form::Two(_) => five(reg, reg, none, none, none),
-        Form::Slot(_) => five(reg, Shape::Plain(4294967296), none, none, none),
+        Form::Slot(_) => five(reg, Shape::Unsigned(SIZE_32), none, none, none),
         Form::Three(_) => five(reg, reg, reg, none, none),
         Form::Shift(_) => five(reg, reg, six, none, none),
         Form::BitAndMask => five(reg, reg, six, six, none),
@@ -75,7 +86,7 @@ fn shapes_of(f: Form) -> Shapes
         Form::ById(_) => five(wide, reg, byte, none, none),
         Form::CallMethodHost => five(reg, byte, byte, wide, none),
         Form::RetImm40 => five(Shape::Raw, none, none, none, none),
-        Form::Unknown => five(Shape::Plain(0), none, none, none, none),
+        Form::Unknown => five(none, none, none, none, none),
     }
 }
 
@@ -84,9 +95,9 @@ fn size_of(s: Shape) -> u64
     ensures { λ r. ⌜ r ≡ sizeOf s ⌝ }
 {
     match s {
-        Shape::Plain(m) => m,
-        Shape::Twos(h) => 2 * h,
-        Shape::Raw => 1099511627776,
+        Shape::Unsigned(m) => m,
+        Shape::Signed(h) => 2 * h,
+        Shape::Raw => SIZE_40,
     }
 }
 
@@ -95,8 +106,8 @@ fn bits_of(s: Shape, p: u64) -> u64
     ensures { λ r. ⌜ r ≡ bitsOf s p ⌝ }
 {
     match s {
-        Shape::Plain(_) => p,
-        Shape::Twos(h) => signed_bits(int64::sign::signed(p), h),
+        Shape::Unsigned(_) => p,
+        Shape::Signed(h) => signed_bits(int64::sign::signed(p), h),
         Shape::Raw => raw_bits(Imm40 {
             raw: int64::sign::signed(p),
         }),

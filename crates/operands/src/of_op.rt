@@ -1,5 +1,5 @@
-// An instruction as numbers: an opcode and five operands. A signed operand is the two's complement pattern of 64 bits; an operand that a form
-// does not have is 0.
+// An instruction as plain numbers: an opcode and five operands. `rshift_mask` has the most, so five serve all 77 instructions. A signed operand is the
+// two's complement pattern of 64 bits; an operand that a form does not have is 0.
 use insns::Insn;
 use insns::encode::arith_op;
 use insns::encode::bare_op;
@@ -21,10 +21,10 @@ use insns::op::Op;
 ghost use mathlib.Core.Path.{_≡_};
 ghost use mir.Syntax.{w64};
 ghost use mir.Val.{ofZ};
-ghost use Rattle.operands.specs.OfOp.{parts, partsOf};
+ghost use Rattle.operands.specs.OfOp.{plain, plainOp};
 
 // The opcode and the operands in declared order.
-pub struct Parts {
+pub struct PlainOp {
     pub opcode: u64,
     pub a: u64,
     pub b: u64,
@@ -51,10 +51,10 @@ fn disp(disp: Disp) -> u64
     int64::sign::pattern(disp.by as i64)
 }
 
-fn of(opcode: u8, a: u64, b: u64, c: u64, d: u64, e: u64) -> Parts
-    ensures { λ r. ⌜ r ≡ parts opcode a b c d e ⌝ }
+fn plain(opcode: u8, a: u64, b: u64, c: u64, d: u64, e: u64) -> PlainOp
+    ensures { λ r. ⌜ r ≡ plain opcode a b c d e ⌝ }
 {
-    Parts {
+    PlainOp {
         opcode: opcode as u64,
         a: a,
         b: b,
@@ -65,17 +65,17 @@ fn of(opcode: u8, a: u64, b: u64, c: u64, d: u64, e: u64) -> Parts
 }
 
 // What an instruction is in numbers.
-pub fn parts_of(i: Op) -> Parts
-    ensures { λ r. ⌜ r ≡ partsOf i ⌝ }
+pub fn plain_op(i: Op) -> PlainOp
+    ensures { λ r. ⌜ r ≡ plainOp i ⌝ }
 {
     match i {
-        Op::Bare(k) => of(bare_op(k), 0, 0, 0, 0, 0),
-        Op::LoadImm40(dst, imm) => of(Insn::LOAD_IMM40, dst as u64, imm40(imm), 0, 0, 0),
-        Op::Two(k, dst, src) => of(two_op(k), dst as u64, src as u64, 0, 0, 0),
-        Op::Slot(k, dst, slot) => of(slot_op(k), dst as u64, slot as u64, 0, 0, 0),
-        Op::Three(k, dst, a, b) => of(three_op(k), dst as u64, a as u64, b as u64, 0, 0),
-        Op::Shift(k, dst, a, n) => of(shift_op(k), dst as u64, a as u64, n as u64, 0, 0),
-        Op::BitAndMask(dst, a, lo, len) => of(
+        Op::Bare(k) => plain(bare_op(k), 0, 0, 0, 0, 0),
+        Op::LoadImm40(dst, imm) => plain(Insn::LOAD_IMM40, dst as u64, imm40(imm), 0, 0, 0),
+        Op::Two(k, dst, src) => plain(two_op(k), dst as u64, src as u64, 0, 0, 0),
+        Op::Slot(k, dst, slot) => plain(slot_op(k), dst as u64, slot as u64, 0, 0, 0),
+        Op::Three(k, dst, a, b) => plain(three_op(k), dst as u64, a as u64, b as u64, 0, 0),
+        Op::Shift(k, dst, a, n) => plain(shift_op(k), dst as u64, a as u64, n as u64, 0, 0),
+        Op::BitAndMask(dst, a, lo, len) => plain(
             Insn::BIT_AND_MASK,
             dst as u64,
             a as u64,
@@ -83,7 +83,7 @@ pub fn parts_of(i: Op) -> Parts
             len as u64,
             0,
         ),
-        Op::RshiftMask(dst, a, n, lo, len) => of(
+        Op::RshiftMask(dst, a, n, lo, len) => plain(
             Insn::RSHIFT_MASK,
             dst as u64,
             a as u64,
@@ -91,9 +91,16 @@ pub fn parts_of(i: Op) -> Parts
             lo as u64,
             len as u64,
         ),
-        Op::Arith(k, dst, a, imm) => of(arith_op(k), dst as u64, a as u64, imm16(imm), 0, 0),
-        Op::ClosNew(dst, fun, num) => of(Insn::CLOS_NEW, dst as u64, fun as u64, num as u64, 0, 0),
-        Op::ClosSet(clos, src, idx) => of(
+        Op::Arith(k, dst, a, imm) => plain(arith_op(k), dst as u64, a as u64, imm16(imm), 0, 0),
+        Op::ClosNew(dst, fun, num) => plain(
+            Insn::CLOS_NEW,
+            dst as u64,
+            fun as u64,
+            num as u64,
+            0,
+            0,
+        ),
+        Op::ClosSet(clos, src, idx) => plain(
             Insn::CLOS_SET,
             clos as u64,
             src as u64,
@@ -101,14 +108,21 @@ pub fn parts_of(i: Op) -> Parts
             0,
             0,
         ),
-        Op::ClosGet(dst, idx) => of(Insn::CLOS_GET, dst as u64, idx as u64, 0, 0, 0),
-        Op::One(k, dst) => of(one_op(k), dst as u64, 0, 0, 0, 0),
-        Op::Wide(k, dst, val, class) => of(wide_op(k), dst as u64, val as u64, class as u64, 0, 0),
-        Op::If(k, val, by) => of(if_op(k), val as u64, disp(by), 0, 0, 0),
-        Op::Jump(k, a, b, by) => of(jump_op(k), a as u64, b as u64, disp(by), 0, 0),
-        Op::JumpImm(k, a, imm, by) => of(jump_imm_op(k), a as u64, imm16(imm), disp(by), 0, 0),
-        Op::Jmp(by) => of(Insn::JMP, disp(by), 0, 0, 0, 0),
-        Op::Call(k, start, argc, cache) => of(
+        Op::ClosGet(dst, idx) => plain(Insn::CLOS_GET, dst as u64, idx as u64, 0, 0, 0),
+        Op::One(k, dst) => plain(one_op(k), dst as u64, 0, 0, 0, 0),
+        Op::Wide(k, dst, val, class) => plain(
+            wide_op(k),
+            dst as u64,
+            val as u64,
+            class as u64,
+            0,
+            0,
+        ),
+        Op::If(k, val, by) => plain(if_op(k), val as u64, disp(by), 0, 0, 0),
+        Op::Jump(k, a, b, by) => plain(jump_op(k), a as u64, b as u64, disp(by), 0, 0),
+        Op::JumpImm(k, a, imm, by) => plain(jump_imm_op(k), a as u64, imm16(imm), disp(by), 0, 0),
+        Op::Jmp(by) => plain(Insn::JMP, disp(by), 0, 0, 0, 0),
+        Op::Call(k, start, argc, cache) => plain(
             call_op(k),
             start as u64,
             argc as u64,
@@ -116,7 +130,7 @@ pub fn parts_of(i: Op) -> Parts
             0,
             0,
         ),
-        Op::CallHost(host, start, argc) => of(
+        Op::CallHost(host, start, argc) => plain(
             Insn::CALL_HOST,
             host as u64,
             start as u64,
@@ -124,7 +138,7 @@ pub fn parts_of(i: Op) -> Parts
             0,
             0,
         ),
-        Op::ById(k, fun, start, argc) => of(
+        Op::ById(k, fun, start, argc) => plain(
             by_id_op(k),
             fun as u64,
             start as u64,
@@ -132,7 +146,7 @@ pub fn parts_of(i: Op) -> Parts
             0,
             0,
         ),
-        Op::CallMethodHost(start, argc, tag, cache) => of(
+        Op::CallMethodHost(start, argc, tag, cache) => plain(
             Insn::CALL_METHOD_HOST,
             start as u64,
             argc as u64,
@@ -140,6 +154,6 @@ pub fn parts_of(i: Op) -> Parts
             cache as u64,
             0,
         ),
-        Op::RetImm40(imm) => of(Insn::RET_IMM40, imm40(imm), 0, 0, 0, 0),
+        Op::RetImm40(imm) => plain(Insn::RET_IMM40, imm40(imm), 0, 0, 0, 0),
     }
 }

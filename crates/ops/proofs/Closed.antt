@@ -1,4 +1,4 @@
--- Every result of an operator has a lent form that reads back as itself, if its operands have. Assumes nothing.
+-- Every result of an operator has a lent form that reads back as itself, if its operands have.
 use mathlib.Core.Path.{_≡_, refl}
 use mathlib.Core.Bool.{Bool, true, false, cond, Bool·beq, _&&_}
 use Prim.Native.Nat.{ℕ, _+_, _-_, _*_, _≤_, _<_, _^_}
@@ -6,7 +6,7 @@ use native.Mathlib.Nat.{lt-of-le-of-lt, min-le-left}
 use native.Mathlib.Omega.{arith}
 use lib.Bits.{bitAnd, bitOr, bitXor, and-lt, or-lt, xor-lt}
 use lib.Dec.{eqb, ltb, lit<}
-use lib.IntN.{ℤ, pos, negsuc, natAbs, _*ℤ_}
+use lib.IntN.{ℤ, pos, negsuc, natAbs, _+ℤ_, _-ℤ_, _*ℤ_}
 use lib.Signed.{mag, mag-rem, mag-shr}
 use mir.Syntax.{w64}
 use mir.Val.{SFits, ofZ}
@@ -18,23 +18,22 @@ use Rattle.int64.specs.Sign as Sign
 use Rattle.int64.specs.Exact as Exact
 use Rattle.int64.specs.declared.Op as IntOp
 use Rattle.int64.specs.declared.Op.the-variants as IO
-use Rattle.int64.specs.declared.exact.Arith.the-variants as B
 use Rattle.int64.specs.declared.order.Cmp.{Cmp}
 use Rattle.int64.specs.declared.order.Cmp.the-variants.{Eq, Ne, Lt, Le, Gt, Ge}
 use Rattle.float.specs.Float as F
 use Rattle.float.specs.Bits as Bits
 use Rattle.float.specs.Bits.{Real, nan, inf, fin, infinity, quiet}
-use Rattle.float.specs.Float.{signed, rounded, unlike, sum, negated}
+use Rattle.float.specs.Float.{withSignBit, rounded, unlike, sum, negated}
 use Rattle.float.specs.declared.Op as FloatOp
 use Rattle.float.specs.declared.Op.the-variants as FO
 use Rattle.float.specs.declared.Whole.{Whole}
 use Rattle.float.specs.declared.Whole.the-variants.{Is, Wide}
 use Rattle.value.specs.Value.{Datum, nil, bool, int, float}
 use Rattle.value.specs.Answer.{Result, is, fault, isNumber}
-use Rattle.ops.specs.Arith.{ofNumbers, fromInt, converted, floats, asFloats, arithOf, minusOf, wholeOf}
+use Rattle.ops.specs.Arith.{ofNumbers, fromInt, converted, floats, asFloats, arithOf, wholeOf}
 use Rattle.ops.specs.Compare.{mixed, mirror, compareNumbers, compareOthers, compareOf, same}
 use Rattle.ops.specs.Not.{notOf, negate}
-use Rattle.ops.specs.Ops.{binaryOf}
+use Rattle.ops.specs.Ops.{minusOf, binaryOf}
 use Rattle.value.proofs.RoundTrip.{Holds}
 
 abbrev pub Back : Result → Type 0
@@ -58,15 +57,15 @@ either : (b : Bool) {x y : ℕ} → Pattern x → Pattern y → Pattern (cond b 
 either true h k = h
 either false h k = k
 
-with-sign : (s : Bool) (q : ℕ) → q ≤ infinity → Pattern (signed s q)
+with-sign : (s : Bool) (q : ℕ) → q ≤ infinity → Pattern (withSignBit s q)
 with-sign true q h = omega arith
 with-sign false q h = omega arith
 
-rounds : (s : Bool) (num den : ℕ) → Pattern (signed s (rounded num den))
+rounds : (s : Bool) (num den : ℕ) → Pattern (withSignBit s (rounded num den))
 unfolding rounded
 rounds s num den = with-sign s (rounded num den) (min-le-left _ _)
 
-infinite : (s : Bool) → Pattern (signed s infinity)
+infinite : (s : Bool) → Pattern (withSignBit s infinity)
 infinite true = omega arith
 infinite false = omega arith
 
@@ -166,9 +165,9 @@ rights a b s = shifts b _ (λ k. within (I.floor a (2 ^ k)) a (floors a (2 ^ k))
 
 pub ints : (op : IntOp.Op) (a b : ℤ) → SFits w64 a → SFits w64 b → Held (fromInt (I.operate op a b))
 unfolding I.operate
-ints IO.Add a b s t = exact (Exact.arith B.Add a b)
-ints IO.Sub a b s t = exact (Exact.arith B.Sub a b)
-ints IO.Mul a b s t = exact (Exact.arith B.Mul a b)
+ints IO.Add a b s t = exact (a +ℤ b)
+ints IO.Sub a b s t = exact (a -ℤ b)
+ints IO.Mul a b s t = exact (a *ℤ b)
 ints IO.And a b s t = bits bitAnd (and-lt 64) a b s t
 ints IO.Or a b s t = bits bitOr (or-lt 64) a b s t
 ints IO.Xor a b s t = bits bitXor (xor-lt 64) a b s t

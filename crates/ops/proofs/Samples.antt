@@ -1,4 +1,4 @@
--- Results that antt computes from the definitions. Assumes nothing.
+-- Results that antt computes from the definitions.
 use mathlib.Core.Path.{_≡_, refl}
 use mathlib.Core.Bool.{true, false}
 use lib.IntN.{pos, negsuc}
@@ -13,9 +13,9 @@ use Rattle.int64.specs.Sign as Sign
 use Rattle.int64.specs.Exact as Exact
 use Rattle.int64.specs.Order.{orderZ, holds}
 use Rattle.value.specs.Answer.{is, fault, isNumber}
-use Rattle.ops.specs.Arith.{ofNumbers, fromInt, converted, floats, asFloats, arithOf, minusOf, divOf, wholeOf}
+use Rattle.ops.specs.Arith.{ofNumbers, fromInt, converted, floats, asFloats, arithOf, wholeOf}
 use Rattle.ops.specs.Compare.{mixed, compareNumbers, compareOthers, compareOf, same}
-use Rattle.ops.specs.Ops.{addOf, remOf, shlOf, shrOf, ltOf, leOf, eqOf}
+use Rattle.ops.specs.Ops.{minusOf, divOf, addOf, modOf, lshiftOf, rshiftOf, ltOf, leOf, eqOf}
 
 -- case 10: Minus of -2^63
 least : minusOf (int (negsuc 9223372036854775807)) ≡ fault overflow
@@ -62,16 +62,16 @@ quotient : divOf (int (pos 1)) (int (pos 4)) ≡ is (float 0x3fd0000000000000)
 unfolding ofNumbers isNumber asFloats converted floats F.operate F.div Bits.read F.ofInt F.rounded F.halvings F.toNearest
 quotient = refl
 
-remainder : remOf (int (negsuc 6)) (int (pos 3)) ≡ is (int (negsuc 0))
+remainder : modOf (int (negsuc 6)) (int (pos 3)) ≡ is (int (negsuc 0))
 unfolding wholeOf fromInt I.operate I.shl I.shr I.rem I.remainder I.floor Sign.negative Sign.withSign I.exact I.checked Exact.inRange
 remainder = refl
 
-shift : shrOf (int (negsuc 4)) (int (pos 1)) ≡ is (int (negsuc 2))
+shift : rshiftOf (int (negsuc 4)) (int (pos 1)) ≡ is (int (negsuc 2))
 unfolding wholeOf fromInt I.operate I.shl I.shr I.rem I.remainder I.floor Sign.negative Sign.withSign I.exact I.checked Exact.inRange
 shift = refl
 
 -- a bad amount before a result that is too large
-too-far : shlOf (int (pos 1)) (int (pos 64)) ≡ fault badShift
+too-far : lshiftOf (int (pos 1)) (int (pos 64)) ≡ fault badShift
 unfolding wholeOf fromInt I.operate I.shl I.shr I.rem I.remainder I.floor Sign.negative Sign.withSign I.exact I.checked Exact.inRange
 too-far = refl
 

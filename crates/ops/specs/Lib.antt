@@ -3,3 +3,4 @@ pub mod Ops
 pub mod Arith
 pub mod Compare
 pub mod Not
+pub mod Code

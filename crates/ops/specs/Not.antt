@@ -1,4 +1,4 @@
--- Not, by document 01, "Values": of a Bool, else 20; a fault stays what it is. Assumes nothing: these are definitions.
+-- Not, by document 01, "Values": of a Bool, else 20; a fault stays what it is.
 use mathlib.Core.Bool.{not}
 use Rattle.faults.specs.Numbers.{wrongKind}
 use Rattle.value.specs.Value.{Datum, nil, bool, int, float}

@@ -4,7 +4,7 @@ ghost use Rattle.value.specs.Value.{meaning, float};
 ghost use Rattle.value.specs.Answer.{resultOf, is};
 ghost use Rattle.value.specs.Seen.{shown};
 ghost use Rattle.ops.specs.Arith as Ops;
-ghost use Rattle.ops.specs.Arith.{intsOf};
+ghost use Rattle.ops.specs.Code.{operateOf, intsOf};
 ghost use Rattle.int64.specs.Int.{outcomeOf};
 use float::Whole;
 use int64::Num;
@@ -21,11 +21,11 @@ pub enum Ints {
     Not,
 }
 
-// How an operator goes about it: Add, Sub, Mul on two Ints or as Floats; Div as Floats; the rest on Ints alone.
+// How an operator goes about it: Add, Sub, Mul on two Ints, or else on Floats; Div on Floats; Mod, the bit operators and the shifts on Ints alone.
 pub enum How {
-    Arith(int64::Op, float::Op),
+    Either(int64::Op, float::Op),
     Floats(float::Op),
-    Whole(int64::Op),
+    Ints(int64::Op),
 }
 
 fn int_answer(n: Num) -> Answer
@@ -91,16 +91,16 @@ fn ints_of(a: Number, b: Number) -> Ints
 }
 
 fn operate_numbers(how: How, a: Number, b: Number) -> Answer
-    ensures { λ r. ⌜ resultOf r ≡ Ops.operateOf how (shown a) (shown b) ⌝ }
+    ensures { λ r. ⌜ resultOf r ≡ operateOf how (shown a) (shown b) ⌝ }
 {
     let w = ints_of(a, b);
     match how {
-        How::Arith(i, f) => match w {
+        How::Either(i, f) => match w {
             Ints::Are(p, q) => int_answer(int64::operate(i, p, q)),
             Ints::Not => as_floats(f, a, b),
         },
         How::Floats(f) => as_floats(f, a, b),
-        How::Whole(i) => match w {
+        How::Ints(i) => match w {
             Ints::Are(p, q) => int_answer(int64::operate(i, p, q)),
             Ints::Not => Answer::Fault(faults::WRONG_KIND),
         },
@@ -109,7 +109,7 @@ fn operate_numbers(how: How, a: Number, b: Number) -> Answer
 
 // Every arithmetic and bit operator.
 pub fn operate(how: How, a: Value, b: Value) -> Answer
-    ensures { λ r. ⌜ resultOf r ≡ Ops.operateOf how (meaning a) (meaning b) ⌝ }
+    ensures { λ r. ⌜ resultOf r ≡ operateOf how (meaning a) (meaning b) ⌝ }
 {
     operate_numbers(how, number_of(a), number_of(b))
 }

@@ -13,7 +13,6 @@ use value::Value;
 use value::answer::Answer;
 use value::answer::Number;
 use value::answer::bool_answer;
-use value::answer::both;
 use value::answer::both_numbers;
 use value::answer::number_of;
 use value::kind_of;
@@ -58,20 +57,20 @@ fn compare_numbers(op: Cmp, a: Number, b: Number) -> Answer
     }
 }
 
-// Whether two values that are not both numbers are one, by their kinds and payloads.
-fn same(k: u8, p: u64, l: u8, q: u64) -> bool
+// Whether two pairs lend one value.
+fn same_pair(k: u8, p: u64, l: u8, q: u64) -> bool
     ensures { λ r. ⌜ r ≡ (eqb k l && eqb p q) ⌝ }
 {
-    both(k == l, p == q)
+    (k == l) & (p == q)
 }
 
 // Two values of which one is no number: they are equal or not, and have no order.
-fn compare_others(op: Cmp, same: bool) -> Answer
-    ensures { λ r. ⌜ resultOf r ≡ Ops.compareOthers op same ⌝ }
+fn compare_others(op: Cmp, equal: bool) -> Answer
+    ensures { λ r. ⌜ resultOf r ≡ Ops.compareOthers op equal ⌝ }
 {
     match op {
-        Cmp::Eq => bool_answer(same),
-        Cmp::Ne => bool_answer(!same),
+        Cmp::Eq => bool_answer(equal),
+        Cmp::Ne => bool_answer(!equal),
         Cmp::Lt => Answer::Fault(faults::WRONG_KIND),
         Cmp::Le => Answer::Fault(faults::WRONG_KIND),
         Cmp::Gt => Answer::Fault(faults::WRONG_KIND),
@@ -87,6 +86,6 @@ pub fn compare(op: Cmp, a: Value, b: Value) -> Answer
     if both_numbers(x, y) {
         return compare_numbers(op, x, y);
     }
-    let s = same(kind_of(a), payload_of(a), kind_of(b), payload_of(b));
+    let s = same_pair(kind_of(a), payload_of(a), kind_of(b), payload_of(b));
     compare_others(op, s)
 }

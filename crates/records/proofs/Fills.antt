@@ -1,8 +1,8 @@
--- What the words hold once the records are put: the records' words, and then what stood there. So what is said of the front of those words is said
--- of the records. Assumes nothing.
+-- What the words hold once the records are put: the records' words, and then what stood there. So what is said of the prefix of those words is said
+-- of the records.
 --     flattened-is     the records that are copied, put one by one, are `flattened`
---     check-is         the front's number is the records' number
---     evaluate-is      the front's answer is the records' answer
+--     check-is         the prefix's number is the records' number
+--     evaluate-is      the prefix's answer is the records' answer
 --     same-number, same-answer     with room for the records, however many they are, both are the word table's
 use Prim.Native.Nat.{ℕ, zero, suc, _+_, _*_, _/_, _%_, _≤_, _<_, min}
 use native.Mathlib.Omega.{arith}
@@ -20,10 +20,9 @@ use Rattle.table.specs.declared.Dest.{Dest}
 use Rattle.table.specs.declared.Dest.the-variants.{None}
 use Rattle.eval.specs.Evaluate.{unless, evaluateOf}
 use Rattle.compile.specs.Compile.{accepted, compileOf}
-use Rattle.records.specs.Records.{compileNodes, flat, holding, flattened, checkNodes, evaluateNodes}
-use Rattle.records.specs.Prefix.{roomFault}
+use Rattle.records.specs.Records.{roomFault, compileNodes, flat, holding, flattened, checkNodes, evaluateNodes}
 use Rattle.records.specs.Copy.{none, orNone, copiedOf, put, filled}
-use Rattle.records.specs.Prefix.{checkFront, evaluateFront, compileFront}
+use Rattle.records.specs.Prefix.{checkPrefix, evaluatePrefix, compilePrefix}
 use Rattle.records.specs.declared.Node.{Node}
 use Rattle.records.proofs.prefix.Laws.{has-room, many, fits}
 use Rattle.records.proofs.Laws.{length-filled}
@@ -79,10 +78,10 @@ fills (d ∷ ds) (a ∷ b ∷ c ∷ []) l = absurd (omega (arith, l))
 fills (d ∷ ds) (a ∷ b ∷ c ∷ e ∷ ws) l = filled-later a b c e ws d ds (length ds) ∙ (λ t. d .kind ∷ d .payload ∷ d .first ∷ d .depth ∷ fills ds ws (omega (arith, l)) t)
     ∙ (λ t. d .kind ∷ d .payload ∷ d .first ∷ d .depth ∷ (flat ds ++ drop (sym (on-0 (length ds)) t) (a ∷ b ∷ c ∷ e ∷ ws)))
 
-pub front : (ds : List Node) (rest : List ℕ) → take (4 * length ds) (flat ds ++ rest) ≡ flat ds
+pub prefix : (ds : List Node) (rest : List ℕ) → take (4 * length ds) (flat ds ++ rest) ≡ flat ds
 unfolding flat
-front [] rest = refl
-front (d ∷ ds) rest = (λ t. take (on-0 (length ds) t) (d .kind ∷ d .payload ∷ d .first ∷ d .depth ∷ (flat ds ++ rest))) ∙ (λ t. d .kind ∷ d .payload ∷ d .first ∷ d .depth ∷ front ds rest t)
+prefix [] rest = refl
+prefix (d ∷ ds) rest = (λ t. take (on-0 (length ds) t) (d .kind ∷ d .payload ∷ d .first ∷ d .depth ∷ (flat ds ++ rest))) ∙ (λ t. d .kind ∷ d .payload ∷ d .first ∷ d .depth ∷ prefix ds rest t)
 
 pub flattened-is : (ds : List Node) (ws : List ℕ) → filled ds ws (copiedOf (length ds) (length ws)) ≡ flattened ds ws
 unfolding flattened copiedOf orNone holding filled
@@ -95,35 +94,32 @@ flattened-is ds ws = by-fault (roomFault (length ds) (length ws)) refl
 pub length-flattened : (ds : List Node) (ws : List ℕ) → length (flattened ds ws) ≡ length ws
 length-flattened ds ws = ap length (sym (flattened-is ds ws)) ∙ length-filled ds ws (copiedOf (length ds) (length ws))
 
--- not refused: the front is the records
-front-flat : (ds : List Node) (ws : List ℕ) → roomFault (length ds) (length ws) ≡ 0 → take (4 * length ds) (flattened ds ws) ≡ flat ds
+-- not refused: the prefix is the records
+prefix-flat : (ds : List Node) (ws : List ℕ) → roomFault (length ds) (length ws) ≡ 0 → take (4 * length ds) (flattened ds ws) ≡ flat ds
 unfolding flattened holding
-front-flat ds ws z = rw z (front ds (drop (4 * length ds) ws))
+prefix-flat ds ws z = rw z (prefix ds (drop (4 * length ds) ws))
+
+-- Whatever is asked of a table once the room was looked at: of the prefix and of the records it is the same. A refusal (`stop`) does not look at the table.
+module _ {A : Type 0} (guard : ℕ → A → A) (stop : (f : ℕ) (x y : A) → guard (suc f) x ≡ guard (suc f) y) (ask : List ℕ → A) (ds : List Node) (ws : List ℕ) where
+  prefix-is : guard (roomFault (length ds) (length (flattened ds ws))) (ask (take (4 * length ds) (flattened ds ws))) ≡ guard (roomFault (length ds) (length ws)) (ask (flat ds))
+  prefix-is = rw (length-flattened ds ws) (by-fault (roomFault (length ds) (length ws)) refl)
+    where
+      by-fault : (f : ℕ) → roomFault (length ds) (length ws) ≡ f → guard f (ask (take (4 * length ds) (flattened ds ws))) ≡ guard f (ask (flat ds))
+      by-fault zero e = ap (λ (us : List ℕ). guard 0 (ask us)) (prefix-flat ds ws e)
+      by-fault (suc f) e = stop f _ _
 
 module _ (ds : List Node) (ws : List ℕ) (p l : ℕ) where
-  pub check-is : (dest : Dest) → checkFront (flattened ds ws) (length ds) p l dest ≡ checkNodes ds (length ws) p l dest
-  unfolding checkFront checkNodes _or-else_
-  check-is dest = rw (length-flattened ds ws) (by-fault (roomFault (length ds) (length ws)) refl)
-    where
-      by-fault : (f : ℕ) → roomFault (length ds) (length ws) ≡ f → (f or-else checkOf (take (4 * length ds) (flattened ds ws)) p l dest) ≡ (f or-else checkOf (flat ds) p l dest)
-      by-fault zero e = ap (λ (us : List ℕ). checkOf us p l dest) (front-flat ds ws e)
-      by-fault (suc f) e = refl
+  pub check-is : (dest : Dest) → checkPrefix (flattened ds ws) (length ds) p l dest ≡ checkNodes ds (length ws) p l dest
+  unfolding checkPrefix checkNodes _or-else_
+  check-is dest = prefix-is _or-else_ (λ f x y. refl) (λ us. checkOf us p l dest) ds ws
 
-  pub evaluate-is : (ks ps : List ℕ) → evaluateFront (flattened ds ws) (length ds) p l ks ps ≡ evaluateNodes ds (length ws) p l ks ps
-  unfolding evaluateFront evaluateNodes unless
-  evaluate-is ks ps = rw (length-flattened ds ws) (by-fault (roomFault (length ds) (length ws)) refl)
-    where
-      by-fault : (f : ℕ) → roomFault (length ds) (length ws) ≡ f → unless f (evaluateOf (take (4 * length ds) (flattened ds ws)) p l ks ps) ≡ unless f (evaluateOf (flat ds) p l ks ps)
-      by-fault zero e = ap (λ (us : List ℕ). evaluateOf us p l ks ps) (front-flat ds ws e)
-      by-fault (suc f) e = refl
+  pub evaluate-is : (ks ps : List ℕ) → evaluatePrefix (flattened ds ws) (length ds) p l ks ps ≡ evaluateNodes ds (length ws) p l ks ps
+  unfolding evaluatePrefix evaluateNodes unless
+  evaluate-is ks ps = prefix-is unless (λ f x y. refl) (λ us. evaluateOf us p l ks ps) ds ws
 
-  pub compile-is : (dest : Dest) (c k q : ℕ) → compileFront (flattened ds ws) (length ds) p l dest c k q ≡ compileNodes ds (length ws) p l dest c k q
-  unfolding compileFront compileNodes
-  compile-is dest c k q = rw (length-flattened ds ws) (by-fault (roomFault (length ds) (length ws)) refl)
-    where
-      by-fault : (f : ℕ) → roomFault (length ds) (length ws) ≡ f → accepted f (compileOf (take (4 * length ds) (flattened ds ws)) p l dest maxNodes c (min k q)) ≡ accepted f (compileOf (flat ds) p l dest maxNodes c (min k q))
-      by-fault zero e = ap (λ (us : List ℕ). compileOf us p l dest maxNodes c (min k q)) (front-flat ds ws e)
-      by-fault (suc f) e = refl
+  pub compile-is : (dest : Dest) (c k q : ℕ) → compilePrefix (flattened ds ws) (length ds) p l dest c k q ≡ compileNodes ds (length ws) p l dest c k q
+  unfolding compilePrefix compileNodes
+  compile-is dest c k q = prefix-is accepted (λ f x y. refl) (λ us. compileOf us p l dest maxNodes c (min k q)) ds ws
 
 -- ---- the word table's answers
 

@@ -1,4 +1,4 @@
--- Records put into words, and how many are. Assumes nothing.
+-- Records put into words, and how many are.
 use Prim.Native.Nat.{ℕ, zero, suc, _+_, _*_, _/_, _≤_, _<_}
 use native.Mathlib.Omega.{arith}
 use mathlib.Core.Path.{_≡_, refl, sym, _∙_}
@@ -7,7 +7,7 @@ use mathlib.Core.Bool.{Bool, true, false, cond}
 use lib.Dec.{ltb}
 use lib.ListN.{length, getD, set, length-set}
 use borrow.Author.Tests.{le-ltb, lt-ltb}
-use Rattle.records.specs.Prefix.{roomFault}
+use Rattle.records.specs.Records.{roomFault}
 use Rattle.records.specs.Copy.{none, orNone, copiedOf, put, filled}
 use Rattle.records.specs.declared.Node.{Node}
 

@@ -1,4 +1,4 @@
--- A sample table of records, computed from the definitions alone. Assumes nothing.
+-- A sample table of records, computed from the definitions alone.
 use mathlib.Core.Path.{_≡_, refl}
 use mathlib.Core.List.{List, [], _∷_}
 use Prim.Native.Nat.{ℕ}
@@ -6,8 +6,7 @@ use Rattle.faults.specs.Faults.{fault, _or-else_}
 use Rattle.faults.specs.Numbers.{badShape, notLocal, noRoom}
 use Rattle.table.specs.Table.{arity, children, spanFault, nodeFault, nodesFault, shapeFault, layoutFault, destFault, lastFault, checkOf}
 use Rattle.table.specs.declared.Dest.the-variants.{None, Reg}
-use Rattle.records.specs.Records.{flat, holding, flattened, checkNodes}
-use Rattle.records.specs.Prefix.{roomFault}
+use Rattle.records.specs.Records.{roomFault, flat, holding, flattened, checkNodes}
 use Rattle.records.specs.declared.Node.{Node}
 
 abbrev node : ℕ → ℕ → ℕ → ℕ → Node

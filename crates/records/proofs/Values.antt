@@ -1,4 +1,4 @@
--- What a call of the type `()` returned can be stored. It says nothing of the crate. Assumes nothing.
+-- What a call of the type `()` returned can be stored. It says nothing of the crate.
 use mathlib.Core.Path.{_≡_, sym, ap, subst}
 use mathlib.Core.List.{[], _∷_}
 use lib.Dec.{T}

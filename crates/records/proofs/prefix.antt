@@ -1,2 +1,2 @@
--- What the proofs over the front of lent words share.
+-- What the proofs over the prefix of lent words share.
 pub mod Laws

@@ -1,11 +1,10 @@
--- How the entries over records go about it, for the contracts of their parts: the records are put into the words one by one.
--- Assumes nothing: these are definitions.
+-- Plumbing: the records are put into the words one by one, for the contracts of `flatten` and its parts.
 use Prim.Native.Nat.{ℕ, zero, suc, _+_, _*_, _/_}
 use mathlib.Core.Bool.{cond}
 use mathlib.Core.List.{List}
 use lib.Dec.{ltb}
 use lib.ListN.{length, getD, set}
-use Rattle.records.specs.Prefix.{roomFault}
+use Rattle.records.specs.Records.{roomFault}
 use Rattle.records.specs.declared.Node.{Node}
 
 abbrev pub none : Node

@@ -61,7 +61,7 @@ pub fn check_nodes(nodes: &[Node], words: &mut [u64], params: u64, locals: u64, 
         × (now (words .exit) ≡ flattened (now (nodes .entry)) (now (words .entry))) ⌝ }
 {
     flatten(nodes, words);
-    crate::prefix::check_front(words, nodes.len(), params, locals, dest)
+    crate::prefix::check_prefix(words, nodes.len(), params, locals, dest)
 }
 
 // The answer of a table of records on the values of its parameters and locals: what `eval::evaluate` gives for the same nodes as words.
@@ -74,11 +74,12 @@ pub fn evaluate_nodes(
     kinds: &[u8],
     payloads: &[u64],
 ) -> Answer
-    ensures { λ r. ⌜ (resultOf r ≡ evaluateNodes (now (nodes .entry)) (length (now (words .entry))) params locals (now (kinds .entry)) (now (payloads .entry)))
+    ensures { λ r. ⌜ (resultOf r
+        ≡ evaluateNodes (now (nodes .entry)) (length (now (words .entry))) params locals (now (kinds .entry)) (now (payloads .entry)))
         × (now (words .exit) ≡ flattened (now (nodes .entry)) (now (words .entry))) ⌝ }
 {
     flatten(nodes, words);
-    crate::prefix::evaluate_front(words, nodes.len(), params, locals, kinds, payloads)
+    crate::prefix::evaluate_prefix(words, nodes.len(), params, locals, kinds, payloads)
 }
 
 // The compile of a table of records: what `compile` answers, and writes, for the same nodes as words. The caller lends room for
@@ -93,11 +94,14 @@ pub fn compile_nodes(
     kinds: &mut [u8],
     payloads: &mut [u64],
 ) -> Compiled
-    ensures { λ r. ⌜ (Compiles r (compileNodes (now (nodes .entry)) (length (now (words .entry))) params locals dest (length (now (code .entry))) (length (now (kinds .entry))) (length (now (payloads .entry)))) (now (code .exit)) (now (kinds .exit)) (now (payloads .exit)) (length (now (code .entry))) (length (now (kinds .entry))) (length (now (payloads .entry))))
+    ensures { λ r. ⌜ (Compiles r (compileNodes (now (nodes .entry)) (length (now (words .entry))) params locals dest
+        (length (now (code .entry))) (length (now (kinds .entry))) (length (now (payloads .entry))))
+        (now (code .exit)) (now (kinds .exit)) (now (payloads .exit))
+        (length (now (code .entry))) (length (now (kinds .entry))) (length (now (payloads .entry))))
         × (now (words .exit) ≡ flattened (now (nodes .entry)) (now (words .entry))) ⌝ }
 {
     flatten(nodes, words);
-    crate::prefix::compile_front(
+    crate::prefix::compile_prefix(
         words,
         nodes.len(),
         params,

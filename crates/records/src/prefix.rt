@@ -1,4 +1,4 @@
-// The word table's routines over the front of lent words: the first n records of four words each. Records that are too many for a table, or for
+// The word table's routines over a prefix of the lent words: the first n records, four words each. Records that are too many for a table, or for
 // the words lent, are refused.
 use compile::buffers::Compiled;
 use table::Dest;
@@ -7,7 +7,8 @@ ghost use mathlib.Core.Path.{_≡_};
 ghost use lib.ListN.{length};
 ghost use Rattle.value.specs.Answer.{resultOf};
 ghost use Rattle.compile.specs.Buffers.{Compiles};
-ghost use Rattle.records.specs.Prefix.{roomFault, checkFront, evaluateFront, compileFront};
+ghost use Rattle.records.specs.Prefix.{checkPrefix, evaluatePrefix, compilePrefix};
+ghost use Rattle.records.specs.Records.{roomFault};
 
 // Of so many records into so many words: 1 where the records are too many for any table, 7 where the words have no room for them.
 pub fn room_fault(nodes: usize, words: usize) -> u8
@@ -22,9 +23,9 @@ pub fn room_fault(nodes: usize, words: usize) -> u8
     faults::NONE
 }
 
-// The check of the first n records that the words hold. The words are lent by `&mut`, as those who hand them on for good have them, and stay as they are.
-pub fn check_front(words: &mut [u64], n: usize, params: u64, locals: u64, dest: Dest) -> u8
-    ensures { λ r. ⌜ (r ≡ checkFront (now (words .entry)) n params locals dest) × (now (words .exit) ≡ now (words .entry)) ⌝ }
+// The check of the first n records that the words hold. The entries pass on words that they are lent by `&mut`, so `&mut` it is; the words stay as they are.
+pub fn check_prefix(words: &mut [u64], n: usize, params: u64, locals: u64, dest: Dest) -> u8
+    ensures { λ r. ⌜ (r ≡ checkPrefix (now (words .entry)) n params locals dest) × (now (words .exit) ≡ now (words .entry)) ⌝ }
 {
     let f = room_fault(n, words.len());
     if f != faults::NONE {
@@ -34,7 +35,7 @@ pub fn check_front(words: &mut [u64], n: usize, params: u64, locals: u64, dest: 
 }
 
 // The evaluation of the first n records that the words hold, likewise.
-pub fn evaluate_front(
+pub fn evaluate_prefix(
     words: &mut [u64],
     n: usize,
     params: u64,
@@ -42,7 +43,8 @@ pub fn evaluate_front(
     kinds: &[u8],
     payloads: &[u64],
 ) -> Answer
-    ensures { λ r. ⌜ (resultOf r ≡ evaluateFront (now (words .entry)) n params locals (now (kinds .entry)) (now (payloads .entry))) × (now (words .exit) ≡ now (words .entry)) ⌝ }
+    ensures { λ r. ⌜ (resultOf r ≡ evaluatePrefix (now (words .entry)) n params locals (now (kinds .entry)) (now (payloads .entry)))
+        × (now (words .exit) ≡ now (words .entry)) ⌝ }
 {
     let f = room_fault(n, words.len());
     if f != faults::NONE {
@@ -52,7 +54,7 @@ pub fn evaluate_front(
 }
 
 // The compile of the first n records that the words hold, likewise.
-pub fn compile_front(
+pub fn compile_prefix(
     words: &mut [u64],
     n: usize,
     params: u64,
@@ -62,7 +64,10 @@ pub fn compile_front(
     kinds: &mut [u8],
     payloads: &mut [u64],
 ) -> Compiled
-    ensures { λ r. ⌜ (Compiles r (compileFront (now (words .entry)) n params locals dest (length (now (code .entry))) (length (now (kinds .entry))) (length (now (payloads .entry)))) (now (code .exit)) (now (kinds .exit)) (now (payloads .exit)) (length (now (code .entry))) (length (now (kinds .entry))) (length (now (payloads .entry))))
+    ensures { λ r. ⌜ (Compiles r (compilePrefix (now (words .entry)) n params locals dest
+        (length (now (code .entry))) (length (now (kinds .entry))) (length (now (payloads .entry))))
+        (now (code .exit)) (now (kinds .exit)) (now (payloads .exit))
+        (length (now (code .entry))) (length (now (kinds .entry))) (length (now (payloads .entry))))
         × (now (words .exit) ≡ now (words .entry)) ⌝ }
 {
     let f = room_fault(n, words.len());

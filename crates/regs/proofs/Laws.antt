@@ -1,4 +1,4 @@
--- What the counter's definitions say on each side of their test. Assumes nothing.
+-- What the counter's definitions say on each side of their test.
 use Prim.Native.Nat.{ℕ, _+_, _≤_, _<_, max}
 use mathlib.Core.Path.{_≡_, refl}
 use mathlib.Core.Bool.{Bool, true, false, cond}

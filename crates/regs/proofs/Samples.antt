@@ -1,4 +1,4 @@
--- Sample counters, computed from the definitions alone. Assumes nothing.
+-- Sample counters, computed from the definitions alone.
 use mathlib.Core.Path.{_≡_, refl}
 use Prim.Native.Nat.{ℕ}
 use Rattle.faults.specs.Numbers.{noRegister}

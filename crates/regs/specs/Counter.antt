@@ -1,5 +1,4 @@
 -- The register counter: what each operation makes of it. A refusal, 5, leaves it as it was.
--- Assumes nothing: these are definitions.
 use Prim.Native.Nat.{ℕ, _+_, max}
 use mathlib.Core.Bool.{cond}
 use lib.Dec.{ltb}

@@ -75,7 +75,10 @@ impl Regs {
 
     // Reserves a run of n registers: the first of them, or 5, and then the counter is as it was.
     pub fn alloc_n(&mut self, n: u16) -> Got
-        ensures { λ r. ⌜ (numberOf r ≡ endFault (now (self .entry) .next + n)) × (r ≡ allocated (now (self .entry)) n .got) × (now (self .exit) ≡ allocated (now (self .entry)) n .regs) ⌝ }
+        ensures { λ r. ⌜
+            (numberOf r ≡ endFault (now (self .entry) .next + n))
+            × (r ≡ allocated (now (self .entry)) n .got)
+            × (now (self .exit) ≡ allocated (now (self .entry)) n .regs) ⌝ }
     {
         let a = Regs::with_n(*self, n);
         *self = a.regs;

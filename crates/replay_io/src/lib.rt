@@ -33,8 +33,18 @@ pub fn byte_of(w: u64) -> u8
     255
 }
 
+// How much of a buffer a record uses: n, or all of it where n is more, so that a damaged record cannot reach past its buffer.
+pub fn within(n: u64, room: usize) -> usize
+    ensures { λ r. ⌜ r ≤ room ⌝ }
+{
+    if n < room as u64 {
+        return n as usize;
+    }
+    room
+}
+
 // The eight bytes of a number, least byte first.
-pub fn bytes_of(w: u64) -> [u8; 8]
+fn bytes_of(w: u64) -> [u8; 8]
     ensures { λ r. ⌜ 8 ≡ length r ⌝ }
 {
     let mut b = [0u8; 8];

@@ -11,7 +11,7 @@ ghost use Prim.Native.Nat.{_<_, _≤_, _^_};
 ghost use Rattle.machine.specs.Step.{after, stepOf};
 ghost use Rattle.machine.specs.Run.{out, runFrom, runOf, runPartOf};
 
-// The least of three.
+// The least of three: a bound on the registers or slots that the quick step looks at. Any smaller one would do, at the cost of speed alone.
 fn least(a: usize, b: usize, c: usize) -> usize
     ensures { λ r. ⌜ r ≤ a ⌝ }
     ensures { λ r. ⌜ r ≤ b ⌝ }
@@ -47,7 +47,8 @@ fn next(
     requires { ⌜ slots ≤ length (now «slot_kinds») ⌝ }
     requires { ⌜ slots ≤ length (now «slot_payloads») ⌝ }
     requires { ⌜ slots ≤ 2 ^ 32 ⌝ }
-    ensures { λ r. ⌜ after r (now (kinds .exit)) (now (payloads .exit)) ≡ stepOf (now (words .entry)) (now («slot_kinds» .entry)) (now («slot_payloads» .entry)) at (now (kinds .entry)) (now (payloads .entry)) ⌝ }
+    ensures { λ r. ⌜ after r (now (kinds .exit)) (now (payloads .exit))
+        ≡ stepOf (now (words .entry)) (now («slot_kinds» .entry)) (now («slot_payloads» .entry)) at (now (kinds .entry)) (now (payloads .entry)) ⌝ }
 {
     let p = quick_step(
         words,
@@ -65,7 +66,7 @@ fn next(
     Stepped::Moved(p)
 }
 
-// The steps one after the other. A stopping step is not counted.
+// The steps one after the other. A stopping step is not counted, and the end comes before the budget.
 fn run_from(
     words: &[u64],
     start: usize,
@@ -75,7 +76,9 @@ fn run_from(
     slot_payloads: &[u64],
     budget: u64,
 ) -> Ran
-    ensures { λ r. ⌜ out r (now (kinds .exit)) (now (payloads .exit)) ≡ runFrom (now (words .entry)) (now («slot_kinds» .entry)) (now («slot_payloads» .entry)) budget 0 start (now (kinds .entry)) (now (payloads .entry)) ⌝ }
+    ensures { λ r. ⌜ out r (now (kinds .exit)) (now (payloads .exit))
+        ≡ runFrom (now (words .entry)) (now («slot_kinds» .entry)) (now («slot_payloads» .entry)) budget 0 start
+        (now (kinds .entry)) (now (payloads .entry)) ⌝ }
 {
     let room = least(kinds.len(), payloads.len(), 0x1_0000);
     let slots = least(slot_kinds.len(), slot_payloads.len(), 0x1_0000_0000);
@@ -120,7 +123,8 @@ fn run_from(
     }
 }
 
-// The words from a start on, with the registers and the slots lent as pairs and at most `budget` steps.
+// Runs the words from a start on, with registers and slots lent as pairs and at most `budget` steps. The pairs are looked at once, before
+// the first step, so that no step meets an ill-formed one.
 pub fn run(
     words: &[u64],
     start: usize,
@@ -130,7 +134,8 @@ pub fn run(
     slot_payloads: &[u64],
     budget: u64,
 ) -> Ran
-    ensures { λ r. ⌜ out r (now (kinds .exit)) (now (payloads .exit)) ≡ runOf (now (words .entry)) (now («slot_kinds» .entry)) (now («slot_payloads» .entry)) budget start (now (kinds .entry)) (now (payloads .entry)) ⌝ }
+    ensures { λ r. ⌜ out r (now (kinds .exit)) (now (payloads .exit))
+        ≡ runOf (now (words .entry)) (now («slot_kinds» .entry)) (now («slot_payloads» .entry)) budget start (now (kinds .entry)) (now (payloads .entry)) ⌝ }
 {
     if words.len() < start {
         return Ran {
@@ -164,7 +169,8 @@ pub fn run(
     )
 }
 
-// The runner is lent only the words from its entry to its end. A position counts from the entry.
+// Runs a part of a store: the runner is lent only the words from its entry to its end, so that no jump leaves the part. Its position
+// counts from the entry.
 pub fn run_part(
     store: &[u64],
     entry: usize,
@@ -175,7 +181,9 @@ pub fn run_part(
     slot_payloads: &[u64],
     budget: u64,
 ) -> Ran
-    ensures { λ r. ⌜ out r (now (kinds .exit)) (now (payloads .exit)) ≡ runPartOf (now (store .entry)) entry end (now («slot_kinds» .entry)) (now («slot_payloads» .entry)) budget (now (kinds .entry)) (now (payloads .entry)) ⌝ }
+    ensures { λ r. ⌜ out r (now (kinds .exit)) (now (payloads .exit))
+        ≡ runPartOf (now (store .entry)) entry end (now («slot_kinds» .entry)) (now («slot_payloads» .entry)) budget
+        (now (kinds .entry)) (now (payloads .entry)) ⌝ }
 {
     if end < entry {
         return Ran {

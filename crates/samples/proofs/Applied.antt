@@ -1,4 +1,4 @@
--- The claim's premises can be met: sample 3 with a NaN, run. Assumes nothing.
+-- The claim's premises can be met: sample 3 with a NaN, run.
 use mathlib.Core.Path.{_≡_, refl}
 use mathlib.Core.List.{List, [], _∷_, map}
 use Prim.Native.Nat.{ℕ, zero, suc, _<_, _^_}
@@ -39,9 +39,9 @@ use Rattle.compile.specs.Compile as Compile
 use Rattle.effect.specs.Effect as Effect
 use Rattle.machine.specs.Step as Step
 use Rattle.machine.specs.Run as Run
-use Rattle.claim.specs.Claim.{Accepted, Lent, Ended}
+use Rattle.claim.specs.Claim.{Agrees, Accepted, Supplied}
 use Rattle.samples.specs.Samples.{choice, nan}
-use Rattle.claim.proofs.Theorem.{correct}
+use Rattle.claim.proofs.Theorem.{demand-3}
 
 abbrev made : State.State
 made =
@@ -55,7 +55,7 @@ made =
     }
 
 accepted : Accepted choice 2 0 None 2 made
-unfolding Faults.fault Faults._or-else_ Table.tempBase Table.arity Table.children Table.spanFault Table.nodeFault Table.nodesFault Table.shapeFault Table.layoutFault Table.destFault Table.lastFault Table.checkOf Tree.kindOf Tree.build Tree.treeAt Tree.tree Bits.twos Bits.isRaw Fields.rawBits Fields.wordIf Decode.signed Decode.whole Decode.ifRaw Decode.decodeOf Patch.reachOf Patch.aimWord Patch.patchOf Patch.patchAll State.allocD State.destD State.slotD State.storeD Jump.patchedD Jump.leapD Literal.bits Literal.runAt Literal.runFrom Literal.bitRun Literal.litOf Fold.shiftBy Fold.shiftedBy Fold.foldBy Steps.putD Steps.constTo Steps.constD Steps.leafD Steps.putTo Steps.moveTo Jump.leapTo Jump.turnD Gen.leafV Gen.oneV Gen.twoV Gen.binaryV Gen.intoD Gen.armsD Gen.ternaryV Gen.oneB Gen.pairB Gen.compareB Gen.gen Compile.rootD Compile.generated Compile.compileOf
+unfolding Faults.fault Faults._or-else_ Table.tempBase Table.arity Table.children Table.spanFault Table.nodeFault Table.nodesFault Table.shapeFault Table.layoutFault Table.destFault Table.lastFault Table.checkOf Tree.kindOf Tree.build Tree.treeAt Tree.tree Bits.twos Bits.isRaw Fields.rawBits Fields.wordIf Decode.signed Decode.whole Decode.ifRaw Decode.decodeOf Patch.aimWord Patch.patchOf Patch.patchAll State.allocD State.destD State.slotD State.storeD Jump.patchedD Jump.leapD Literal.bits Literal.runAt Literal.runFrom Literal.bitRun Literal.litOf Fold.shiftBy Fold.shiftedBy Fold.foldBy Steps.putD Steps.constTo Steps.constD Steps.leafD Steps.putTo Steps.moveTo Jump.leapTo Jump.turnD Gen.leafV Gen.oneV Gen.twoV Gen.binaryV Gen.intoD Gen.armsD Gen.ternaryV Gen.oneB Gen.pairB Gen.compareB Gen.gen Compile.rootD Compile.generated Compile.compileOf
 accepted = record { places = 8; cap = 8; slotCap = 8; is = refl }
 
 abbrev kinds : List ℕ
@@ -70,9 +70,9 @@ wide (suc zero) = omega arith
 wide (suc (suc zero)) = omega arith
 wide (suc (suc (suc i))) = omega arith
 
-lent : Lent made kinds payloads [] [] 4
+supplied : Supplied made kinds payloads [] [] 4
 unfolding Val.ofPair Val.allWell Val.datums
-lent =
+supplied =
     record {
       registers = record { well = refl; words = wide };
       room = omega arith;
@@ -80,6 +80,6 @@ lent =
       enough = omega arith;
     }
 
-pub applied : Ended None 2 2 made kinds payloads (Val.int (pos 2)) (Run.runOf (made .words) [] [] 4 0 kinds payloads)
+pub applied : Agrees None 2 2 made kinds payloads (Answer.is (Val.int (pos 2))) (Run.runOf (made .words) [] [] 4 0 kinds payloads)
 unfolding Faults.fault Faults._or-else_ Table.tempBase Table.arity Table.children Table.spanFault Table.nodeFault Table.nodesFault Table.shapeFault Table.layoutFault Table.destFault Table.lastFault Table.checkOf Tree.kindOf Tree.build Tree.treeAt Tree.tree Val.ofPair Val.allWell Val.datums Answer.isNumber Arith.ofNumbers Arith.fromInt Arith.arithOf Standing.standing Sign.negative Compare.mixed Compare.compareNumbers Compare.compareOf Not.notOf Order.holds Exact.inRange I.checked I.exact Exact.arith I.operate FBits.read F.halvings F.toNearest F.rounded order F.ofInt Eval.leafOf Eval.unaryOf Eval.cmpOf Apply.on Apply.both Apply.whether Eval.binaryOf Eval.evalOf Evaluate.localsFault Evaluate.unless Evaluate.evaluateOf
-applied = correct choice 2 0 None 2 made accepted kinds payloads [] [] 4 lent
+applied = demand-3 choice 2 0 None 2 made accepted .agrees kinds payloads [] [] 4 supplied

@@ -1,4 +1,4 @@
--- The starred samples of document 01 as one list: what the definitions give, and what 01 says, both written out as numbers. Assumes nothing.
+-- The starred samples of document 01 as one list: what the definitions give, and what 01 says, both written out as numbers.
 use mathlib.Core.Bool.{false, cond}
 use mathlib.Core.List.{List, [], _∷_, _++_}
 use Prim.Native.Nat.{ℕ, zero, suc, _+_, _-_, _*_, _^_}
@@ -67,9 +67,16 @@ abbrev pub aimed : ℕ → ℕ → List ℕ
 aimed at target = aim (aimWord 0x33 at target) ∷ []
 
 -- the word of an instruction
-abbrev pub wordOf : Made → ℕ
-wordOf (Made.Fits w) = w .bits
-wordOf Made.Refused = 0
+abbrev pub bitsOf : Made → ℕ
+bitsOf (Made.Fits w) = w .bits
+bitsOf Made.Refused = 0
+
+abbrev pub word : Op → ℕ
+word i = bitsOf (madeOf i)
+
+-- load_imm40 of raw bits
+abbrev pub load : ℕ → ℕ → ℕ
+load d raw = word (Op.LoadImm40 d (record { raw = pos raw }))
 
 -- ---- tables: kind, payload, first, depth of each node
 
@@ -98,7 +105,7 @@ samples =
     -- 1: a + 5
     (compiled 1 (withInt 13 5), 0 ∷ 1 ∷ 2 ∷ 0 ∷ 5497558139159 ∷ [])
     -- 2: a + 32,768: load_imm40 1, raw 131,072; add 1, 0, 1
-    ∷ (compiled 1 (withInt 13 32768), 0 ∷ 1 ∷ 2 ∷ 0 ∷ wordOf (madeOf (Op.LoadImm40 1 (record { raw = pos 131072 }))) ∷ wordOf (madeOf (Op.Three Three.Add 1 0 1)) ∷ [])
+    ∷ (compiled 1 (withInt 13 32768), 0 ∷ 1 ∷ 2 ∷ 0 ∷ load 1 131072 ∷ word (Op.Three Three.Add 1 0 1) ∷ [])
     -- 3: a < b ? 1 : 2
     ∷ (compiled 2 choice, 0 ∷ 2 ∷ 3 ∷ 0 ∷ 0x0000020001000033 ∷ 0x04000203 ∷ 0x0000000000000141 ∷ 0x08000203 ∷ [])
     -- 4: in that tree a NaN gives 2, evaluated and run; !(a >= b) ? 1 : 2 gives 1
@@ -107,16 +114,16 @@ samples =
     ∷ (valued (evaluateOf otherwise 2 0 (3 ∷ 2 ∷ []) (nan ∷ 7 ∷ [])), 0 ∷ 2 ∷ 1 ∷ [])
     ∷ (ran (3 ∷ 2 ∷ 0 ∷ []) (nan ∷ 7 ∷ 0 ∷ []) (compileOf otherwise 2 0 None 8 8 8), 0 ∷ 2 ∷ 1 ∷ [])
     -- 5: a test 5 < a, jumping if false: jngt_imm16 on a, 5
-    ∷ (tested (binary (cmp lt) (leaf (int (pos 5))) (leaf (ref 0))), wordOf (madeOf (Op.JumpImm Cmp.Ngt 0 (record { n = pos 5 }) (record { by = pos 0 }))) ∷ [])
+    ∷ (tested (binary (cmp lt) (leaf (int (pos 5))) (leaf (ref 0))), word (Op.JumpImm Cmp.Ngt 0 (record { n = pos 5 }) (record { by = pos 0 })) ∷ [])
     -- 6: a & 0xFF0 has lo 4 and len 8; a & 5 is not folded
-    ∷ (compiled 1 (withInt 8 0xFF0), 0 ∷ 1 ∷ 2 ∷ 0 ∷ wordOf (madeOf (Op.BitAndMask 1 0 4 8)) ∷ [])
-    ∷ (compiled 1 (withInt 8 5), 0 ∷ 1 ∷ 2 ∷ 0 ∷ wordOf (madeOf (Op.LoadImm40 1 (record { raw = pos 20 }))) ∷ wordOf (madeOf (Op.Three Three.BitAnd 1 0 1)) ∷ [])
+    ∷ (compiled 1 (withInt 8 0xFF0), 0 ∷ 1 ∷ 2 ∷ 0 ∷ word (Op.BitAndMask 1 0 4 8) ∷ [])
+    ∷ (compiled 1 (withInt 8 5), 0 ∷ 1 ∷ 2 ∷ 0 ∷ load 1 20 ∷ word (Op.Three Three.BitAnd 1 0 1) ∷ [])
     -- 7: the mask 2^61 - 1 folds (0, 61); 2^61 is a run, yet no fixnum
-    ∷ (compiled 1 (withInt 8 (2 ^ 61 - 1)), 0 ∷ 1 ∷ 2 ∷ 0 ∷ wordOf (madeOf (Op.BitAndMask 1 0 0 61)) ∷ [])
-    ∷ (compiled 1 (withInt 8 (2 ^ 61)), 0 ∷ 1 ∷ 2 ∷ 1 ∷ wordOf (madeOf (Op.Slot Slot.LoadConst 1 0)) ∷ wordOf (madeOf (Op.Three Three.BitAnd 1 0 1)) ∷ [])
+    ∷ (compiled 1 (withInt 8 (2 ^ 61 - 1)), 0 ∷ 1 ∷ 2 ∷ 0 ∷ word (Op.BitAndMask 1 0 0 61) ∷ [])
+    ∷ (compiled 1 (withInt 8 (2 ^ 61)), 0 ∷ 1 ∷ 2 ∷ 1 ∷ word (Op.Slot Slot.LoadConst 1 0) ∷ word (Op.Three Three.BitAnd 1 0 1) ∷ [])
     -- 8: 2^37 - 1 is immediate, 2^37 takes a slot
-    ∷ (compiled 0 (node 3 (2 ^ 37 - 1) 0 1), 0 ∷ 1 ∷ 2 ∷ 0 ∷ wordOf (madeOf (Op.LoadImm40 1 (record { raw = pos (4 * (2 ^ 37 - 1)) }))) ∷ [])
-    ∷ (compiled 0 (node 3 (2 ^ 37) 0 1), 0 ∷ 1 ∷ 2 ∷ 1 ∷ wordOf (madeOf (Op.Slot Slot.LoadConst 1 0)) ∷ [])
+    ∷ (compiled 0 (node 3 (2 ^ 37 - 1) 0 1), 0 ∷ 1 ∷ 2 ∷ 0 ∷ load 1 (4 * (2 ^ 37 - 1)) ∷ [])
+    ∷ (compiled 0 (node 3 (2 ^ 37) 0 1), 0 ∷ 1 ∷ 2 ∷ 1 ∷ word (Op.Slot Slot.LoadConst 1 0) ∷ [])
     -- 9: a branch from 0 to 8,388,608 fits 24 bits, to 8,388,609 is 8; from 8,388,607 to 0 fits, from 8,388,608 is 8
     ∷ (aimed 0 8388608, 0 ∷ [])
     ∷ (aimed 0 8388609, 8 ∷ [])
@@ -181,14 +188,14 @@ report (out r ks ps) = r .number ∷ r .steps ∷ r .position ∷ []
 abbrev pub unstarred : List (List ℕ × List ℕ)
 unstarred =
     -- 11: Nil with base 65,534: accepted, frame 65,535; base 65,535: 5
-    (answered (node 0 0 0 1) 65534 8 8 8, 0 ∷ 65534 ∷ 65535 ∷ 0 ∷ wordOf (madeOf (Op.LoadImm40 65534 (record { raw = pos 1 }))) ∷ [])
+    (answered (node 0 0 0 1) 65534 8 8 8, 0 ∷ 65534 ∷ 65535 ∷ 0 ∷ load 65534 1 ∷ [])
     ∷ (answered (node 0 0 0 1) 65535 8 8 8, 5 ∷ [])
     -- 12: depth 64 accepted, 65 is 3
     ∷ (numberOf (compileOf (nots 64) 1 0 None 8 64 8), 0 ∷ [])
     ∷ (numberOf (compileOf (nots 65) 1 0 None 8 65 8), 3 ∷ [])
     -- 13: a << 63 folds; a << 64 compiles in general form and faults 24, evaluated and run
-    ∷ (compiled 1 (withInt 11 63), 0 ∷ 1 ∷ 2 ∷ 0 ∷ wordOf (madeOf (Op.Shift Shift.Left 1 0 63)) ∷ [])
-    ∷ (compiled 1 (withInt 11 64), 0 ∷ 1 ∷ 2 ∷ 0 ∷ wordOf (madeOf (Op.LoadImm40 1 (record { raw = pos 256 }))) ∷ wordOf (madeOf (Op.Three Three.Lshift 1 0 1)) ∷ [])
+    ∷ (compiled 1 (withInt 11 63), 0 ∷ 1 ∷ 2 ∷ 0 ∷ word (Op.Shift Shift.Left 1 0 63) ∷ [])
+    ∷ (compiled 1 (withInt 11 64), 0 ∷ 1 ∷ 2 ∷ 0 ∷ load 1 256 ∷ word (Op.Three Three.Lshift 1 0 1) ∷ [])
     ∷ (valued (evaluateOf (withInt 11 64) 1 0 (2 ∷ []) (7 ∷ [])), 24 ∷ [])
     ∷ (ran (2 ∷ 0 ∷ []) (7 ∷ 0 ∷ []) (compileOf (withInt 11 64) 1 0 None 8 8 8), 24 ∷ 2 ∷ 64 ∷ [])
     -- 14: a lone Ref: no words, no steps, budget 0 is enough

@@ -1,4 +1,4 @@
--- What the check's 0 says of a node and its children. Assumes nothing.
+-- What the check's 0 says of a node and its children.
 use mathlib.Core.Path.{_≡_, refl, sym, _∙_, ap, subst}
 use mathlib.Core.Logic.{⊎-elim}
 use mathlib.Core.Bool.{Bool, true, false, not, _&&_}
@@ -12,9 +12,10 @@ use lib.ListN.{getD}
 use borrow.Author.Tests.{ltb-false, eqb-true, eqb-false, leb-false, lt-leb, not-false, eq-eqb}
 use Rattle.faults.specs.Limits.{maxDepth}
 use Rattle.faults.specs.Faults.{fault, _or-else_}
-use Rattle.table.specs.Table.{kindAt, payloadAt, firstAt, depthAt, child1, child2, child3, arity, kindFault, limitFault, children, spanFault, nodeFault, nodesFault, nodeCount, Node, Child, Below}
-use Rattle.table.specs.declared.Span.{Span}
-use Rattle.table.specs.declared.Span.the-variants.{Missing, Between}
+use Rattle.table.specs.Table.{kindAt, payloadAt, firstAt, depthAt, child1, child2, child3, arity, kindFault, limitFault, children, spanFault, nodeFault, nodesFault, nodeCount}
+use Rattle.table.specs.Nodes.{Node, Child, Below}
+use Rattle.table.specs.declared.children.Span.{Span}
+use Rattle.table.specs.declared.children.Span.the-variants.{Missing, Between}
 use Rattle.faults.proofs.Faults.{none-both, first, second, failed, and-true, stop, pass}
 
 -- ---- the children

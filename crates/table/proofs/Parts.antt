@@ -1,4 +1,4 @@
--- The returns of the check's parts, each a law over plain values that `search parts` finds. Assumes nothing.
+-- The returns of the check's parts, each a law over plain values that `search parts` finds.
 use mathlib.Core.Path.{_≡_, refl, sym}
 use mathlib.Core.Bool.{true, false}
 use mathlib.Core.List.{List}
@@ -12,8 +12,8 @@ use Rattle.faults.specs.Numbers.{badNode, notLocal, noRegister}
 use Rattle.table.specs.Table.{nodeCount, firstAt, spanFault, layoutFault, destFault, lastFault}
 use Rattle.table.specs.declared.Dest.{Dest}
 use Rattle.table.specs.declared.Dest.the-variants.{None, Reg}
-use Rattle.table.specs.declared.Span.{Span}
-use Rattle.table.specs.declared.Span.the-variants.{Missing, Between}
+use Rattle.table.specs.declared.children.Span.{Span}
+use Rattle.table.specs.declared.children.Span.the-variants.{Missing, Between}
 
 -- ---- `span_fault`: a depth is one more than the children's, which the code tests from below
 

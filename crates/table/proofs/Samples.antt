@@ -1,4 +1,4 @@
--- Sample tables, computed from the definitions alone. Assumes nothing.
+-- Sample tables, computed from the definitions alone.
 use mathlib.Core.Path.{_≡_, refl}
 use mathlib.Core.List.{List, [], _∷_}
 use Prim.Native.Nat.{ℕ}

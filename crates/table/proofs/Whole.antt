@@ -1,4 +1,4 @@
--- What the check's 0 says of the whole table. Assumes nothing.
+-- What the check's 0 says of the whole table.
 use mathlib.Core.Path.{_≡_, refl, sym, _∙_}
 use mathlib.Core.Bool.{not}
 use mathlib.Core.List.{List}
@@ -10,7 +10,8 @@ use mir.Syntax.{w64}
 use mir.Val.{Fits}
 use borrow.Author.Tests.{leb-false, ltb-false, eqb-true, eqb-false, not-false}
 use Rattle.faults.specs.Limits.{maxNodes, maxDepth, maxRegisters}
-use Rattle.table.specs.Table.{nodeCount, firstAt, shapeFault, layoutFault, destFault, nodesFault, lastFault, checkOf, Node}
+use Rattle.table.specs.Table.{nodeCount, firstAt, shapeFault, layoutFault, destFault, nodesFault, lastFault, checkOf}
+use Rattle.table.specs.Nodes.{Node}
 use Rattle.table.specs.Tree.{tree, size, depth}
 use Rattle.table.specs.Accepted.{Subtree, Accepted}
 use Rattle.table.specs.declared.Dest.{Dest}

@@ -1,2 +1,2 @@
 -- The laws that the proofs of `complete` cite.
-pub mod Shapes
+pub mod Laws

@@ -1,10 +1,11 @@
 -- What an accepted table holds: exactly one tree at its last node, and at each node its subtree. `proofs/Whole.antt`, `accepted`, shows it of
--- every table whose number is 0. Assumes nothing: these are statements.
+-- every table whose number is 0.
 use Prim.Native.Nat.{ℕ, _+_, _-_, _≤_, _<_}
 use mathlib.Core.Path.{_≡_}
 use mathlib.Core.List.{List}
 use Rattle.faults.specs.Limits.{maxNodes, maxDepth, maxRegisters}
-use Rattle.table.specs.Table.{nodeCount, firstAt, depthAt, Node}
+use Rattle.table.specs.Table.{nodeCount, firstAt, depthAt}
+use Rattle.table.specs.Nodes.{Node}
 use Rattle.table.specs.Tree.{Tree, tree, Holds, size, depth, RefsBelow}
 
 -- node i holds one tree and no other; it takes the nodes from `first` to i, has the depth that the table says, and its Refs are below the base

@@ -3,3 +3,4 @@ pub mod Table
 pub mod Tree
 pub mod Accepted
 pub mod Complete
+pub mod Nodes

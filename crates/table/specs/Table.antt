@@ -1,5 +1,4 @@
 -- The node table, and the number that its check gives: 0, or the first fault in the order of document 01.
--- Assumes nothing: these are definitions.
 use Prim.Native.Nat.{ℕ, zero, suc, _+_, _*_, _-_, _/_, _%_, _≤_, _<_, max}
 use mathlib.Core.Path.{_≡_}
 use mathlib.Core.Bool.{Bool, true, false, not, cond, _&&_}
@@ -11,8 +10,8 @@ use Rattle.faults.specs.Limits.{maxNodes, maxDepth, maxRegisters}
 use Rattle.faults.specs.Numbers.{badShape, badNode, tooDeep, notLocal, noRegister}
 use Rattle.table.specs.declared.Dest.{Dest}
 use Rattle.table.specs.declared.Dest.the-variants.{None, Reg}
-use Rattle.table.specs.declared.Span.{Span}
-use Rattle.table.specs.declared.Span.the-variants.{Missing, Between}
+use Rattle.table.specs.declared.children.Span.{Span}
+use Rattle.table.specs.declared.children.Span.the-variants.{Missing, Between}
 
 -- ---- four words a node: kind, payload, first, depth
 
@@ -58,11 +57,15 @@ arity k = cond (leb k 5) 0 (cond (leb k 7) 1 (cond (leb k 25) 2 3))
 abbrev pub kindFault : ℕ → ℕ → ℕ
 kindFault k p = fault (ltb 26 k) badNode or-else fault (not (eqb p 0) && not (leb 3 k && leb k 5)) badNode
 
--- the n children whose last one ends just before position e: one is missing, or they reach down to a lowest node and their greatest depth is a number, at least d
+-- the n children whose last one ends just before position e: one is missing, or they begin at a lowest node and have a greatest depth, d or more
 unfoldable pub children : List ℕ → ℕ → ℕ → ℕ → Span
 children ws zero e d = Between e d
 children ws (suc n) zero d = Missing
 children ws (suc n) (suc j) d = children ws n (firstAt ws j) (max d (depthAt ws j))
+
+-- the children of node i
+abbrev pub spanAt : List ℕ → ℕ → Span
+spanAt ws i = children ws (arity (kindAt ws i)) i 0
 
 -- no child is missing, `first` is the lowest node, and `depth` one more than the deepest child's
 unfoldable pub spanFault : Span → ℕ → ℕ → ℕ
@@ -77,7 +80,7 @@ limitFault k p d base = fault (ltb maxDepth d) tooDeep or-else fault (eqb k 5 &&
 unfoldable pub nodeFault : List ℕ → ℕ → ℕ → ℕ
 nodeFault ws base i =
     kindFault (kindAt ws i) (payloadAt ws i)
-    or-else spanFault (children ws (arity (kindAt ws i)) i 0) (firstAt ws i) (depthAt ws i)
+    or-else spanFault (spanAt ws i) (firstAt ws i) (depthAt ws i)
     or-else limitFault (kindAt ws i) (payloadAt ws i) (depthAt ws i) base
 
 -- the first fault of the nodes below n, from 0 upward
@@ -110,32 +113,3 @@ checkOf ws params locals dest =
     or-else destFault dest (params + locals)
     or-else nodesFault ws (params + locals) (nodeCount ws)
     or-else lastFault ws
-
--- ---- what functions over an accepted table ask and give
-
--- i is a node of a table whose nodes were all accepted
-pub record Node (ws : List ℕ) (base i : ℕ) : Type 0 where
-  pub checked : nodesFault ws base (nodeCount ws) ≡ 0
-  pub inside : i < nodeCount ws
-
--- j is a child of the node i
-pub record Child (ws : List ℕ) (base i j : ℕ) : Type 0 where
-  pub node : Node ws base j
-  pub below : j < i
-  pub falls : depthAt ws j < depthAt ws i
-
--- i is a node of an accepted table, and its kind is at least the lowest
-pub record Inner (ws : List ℕ) (i lowest : ℕ) : Type 0 where
-  pub base : ℕ
-  pub node : Node ws base i
-  pub kind : lowest ≤ kindAt ws i
-
--- r is i's child at the place c
-pub record ChildIs (ws : List ℕ) (i c r : ℕ) : Type 0 where
-  pub is : r ≡ c
-  pub of : (base : ℕ) → Node ws base i → Child ws base i r
-
--- no node below i begins above itself
-pub record Below (ws : List ℕ) (i : ℕ) : Type 0 where
-  pub inside : i ≤ nodeCount ws
-  pub low : (j : ℕ) → j < i → firstAt ws j ≤ j

@@ -1,31 +1,14 @@
 // The check of a node table: one pass, from node 0 upward, in which a node looks at its children's records alone.
 use crate::Dest;
-use crate::Span;
+use crate::children::Span;
+use crate::children::arity_of;
+use crate::children::children_of;
 ghost use mathlib.Core.Path.{_≡_};
-ghost use Prim.Native.Nat.{ℕ, _<_, max};
+ghost use Prim.Native.Nat.{_<_};
 ghost use Rattle.faults.specs.Faults.{fault, _or-else_};
-ghost use Rattle.table.specs.Table.{nodeCount, arity, kindFault, limitFault, children, spanFault, nodeFault, nodesFault, shapeFault, layoutFault, destFault, lastFault, checkOf, Below};
-
-fn greater(a: u64, b: u64) -> u64
-    ensures { λ r. ⌜ r ≡ max a b ⌝ }
-{
-    if a < b { b } else { a }
-}
-
-// How many children a kind has.
-fn arity_of(k: u64) -> u64
-    ensures { λ r. ⌜ r ≡ arity k ⌝ }
-{
-    if k <= crate::REF {
-        0
-    } else if k <= crate::NOT {
-        1
-    } else if k <= crate::OR {
-        2
-    } else {
-        3
-    }
-}
+ghost use Rattle.table.specs.Table.{nodeCount, kindFault, limitFault, spanFault, nodeFault, nodesFault};
+ghost use Rattle.table.specs.Table.{shapeFault, layoutFault, destFault, lastFault, checkOf};
+ghost use Rattle.table.specs.Nodes.{Below};
 
 // The number of the first of two tests that holds, else none.
 fn either(a: bool, n: u8, b: bool, m: u8) -> u8
@@ -52,25 +35,6 @@ fn kind_fault(k: u64, p: u64) -> u8
         (p != 0) & idle,
         faults::BAD_NODE,
     )
-}
-
-// What the n children cover whose last one ends just before node i.
-fn children_of(nodes: &[u64], n: u64, i: usize) -> Span
-    requires { ⌜ Below (now nodes) i ⌝ }
-    ensures { λ r. ⌜ r ≡ children (now (nodes .entry)) n i 0 ⌝ }
-{
-    let mut left = n;
-    let mut e = i;
-    let mut d = 0;
-    while 0 < left {
-        if e == 0 {
-            return Span::Missing;
-        }
-        d = greater(d, crate::depth_at(nodes, e - 1));
-        e = crate::first_at(nodes, e - 1);
-        left -= 1;
-    }
-    Span::Between(e, d)
 }
 
 fn span_fault(s: Span, f: usize, d: u64) -> u8

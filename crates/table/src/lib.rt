@@ -1,21 +1,17 @@
 // The node table: its kinds, the four words of a node, and a node's children; its check (`check`); filling in first and depth (`complete`).
 pub mod check;
+mod children;
 pub mod complete;
 
 ghost use mathlib.Core.Path.{_≡_};
 ghost use Prim.Native.Nat.{_<_};
-ghost use Rattle.table.specs.Table.{nodeCount, kindAt, payloadAt, firstAt, depthAt, Inner, ChildIs, child1, child2, child3};
+ghost use Rattle.table.specs.Table.{nodeCount, kindAt, payloadAt, firstAt, depthAt, child1, child2, child3};
+ghost use Rattle.table.specs.Nodes.{Inner, ChildIs};
 
 // Where a value goes: nowhere in particular, or a register.
 pub enum Dest {
     None,
     Reg(u64),
-}
-
-// What a node's children cover: one is missing, or their lowest node and their greatest depth.
-pub enum Span {
-    Missing,
-    Between(usize, u64),
 }
 
 // The kinds of a node. Up to REF a node has no child, up to NOT one, up to OR two, and TERNARY has three.
@@ -88,14 +84,14 @@ pub fn payload_at(nodes: &[u64], i: usize) -> u64
     nodes[4 * i + 1]
 }
 
-pub fn first_at(nodes: &[u64], i: usize) -> usize
+fn first_at(nodes: &[u64], i: usize) -> usize
     requires { ⌜ i < nodeCount (now nodes) ⌝ }
     ensures { λ r. ⌜ r ≡ firstAt (now (nodes .entry)) i ⌝ }
 {
     nodes[4 * i + 2] as usize
 }
 
-pub fn depth_at(nodes: &[u64], i: usize) -> u64
+fn depth_at(nodes: &[u64], i: usize) -> u64
     requires { ⌜ i < nodeCount (now nodes) ⌝ }
     ensures { λ r. ⌜ r ≡ depthAt (now (nodes .entry)) i ⌝ }
 {

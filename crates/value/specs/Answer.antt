@@ -1,4 +1,4 @@
--- What an operator answers, by document 01, "Values": a value, or the number of a fault. Assumes nothing: these are definitions.
+-- What an operator answers, by document 01, "Values": a value, or the number of a fault.
 use Prim.Native.Nat.{ℕ}
 use mathlib.Core.Bool.{Bool, true, false}
 use Rattle.value.specs.Value.{Datum, nil, bool, int, float, meaning}

@@ -1,4 +1,4 @@
--- How the code sees the operands of an operator: as numbers by their patterns, anything else as Nil. What the operators mean does not use it.
+-- Plumbing: how the code sees the operands of an operator: as numbers by their patterns, anything else as Nil. What the operators mean does not use it.
 use mathlib.Core.Bool.{Bool, true, false}
 use mir.Syntax.{w64}
 use mir.Val.{toZ}

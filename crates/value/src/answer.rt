@@ -12,7 +12,7 @@ pub enum Answer {
     Fault(u8),
 }
 
-// A value as a number, by its pattern. An enum of two kinds in place of the f64 and the NaN of `Value`.
+// A value as a number, by its pattern: a Float is one case here, where `Value` has one for its NaNs.
 pub enum Number {
     Int(u64),
     Float(u64),
@@ -39,12 +39,6 @@ fn is_number(a: Number) -> bool
         Number::Float(_) => true,
         Number::Other => false,
     }
-}
-
-pub fn both(s: bool, t: bool) -> bool
-    ensures { λ r. ⌜ r ≡ (s && t) ⌝ }
-{
-    s && t
 }
 
 pub fn both_numbers(a: Number, b: Number) -> bool

@@ -20,7 +20,7 @@ pub enum Lent {
     Ill,
 }
 
-// The float value of a pattern.
+// The Float of a pattern.
 pub fn of_pattern(p: u64) -> Value
     ensures { λ r. ⌜ Vs.meaning r ≡ Vs.float p ⌝ }
 {
@@ -30,6 +30,7 @@ pub fn of_pattern(p: u64) -> Value
     Value::Float(float::bits::number(p))
 }
 
+// The value that a pair is lent for.
 pub fn from_pair(kind: u8, payload: u64) -> Lent
     ensures { λ r. ⌜ Vs.readOf r ≡ Vs.ofPair kind payload ⌝ }
 {
@@ -54,6 +55,7 @@ pub fn from_pair(kind: u8, payload: u64) -> Lent
     Lent::Ill
 }
 
+// The pair that a value is lent as.
 pub fn kind_of(v: Value) -> u8
     ensures { λ r. ⌜ r ≡ Vs.kindOf (Vs.meaning v) ⌝ }
 {

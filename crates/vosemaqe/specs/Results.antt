@@ -1,26 +1,29 @@
--- How numbers stand for what the crates below answer. A result cell holds 0 wherever the number is not 0. Assumes nothing: these are definitions.
+-- What a call leaves in the caller's result cells: the number of the answer, and 0 in every cell wherever the number is not 0.
 use mathlib.Core.Path.{_≡_}
 use mathlib.Core.List.{List}
-use Prim.Native.Nat.{ℕ, zero, suc}
+use Prim.Native.Nat.{ℕ, zero, suc, min}
+use lib.ListN.{length}
 use Rattle.table.specs.declared.Dest.{Dest}
 use Rattle.table.specs.declared.Dest.the-variants.{None, Reg}
 use Rattle.value.specs.Value.{kindOf, payloadOf}
 use Rattle.value.specs.Answer as Answer
 use Rattle.value.specs.Answer.{Result}
 use Rattle.emit.specs.State.{Res, State}
+use Rattle.compile.specs.Compile.{compileOf}
 use Rattle.compile.specs.Buffers.{answered, padded, wordsOf, kindsOf, payloadsOf}
 use Rattle.compile.specs.declared.buffers.Compiled.{Compiled}
 use Rattle.compile.specs.declared.buffers.Compiled.the-variants.{Done, Refused}
-use Rattle.faults.specs.Numbers.{undecoded, noFit}
+use Rattle.insns.specs.Fields.{madeNumber}
 use Rattle.insns.specs.declared.Insn.{Insn}
 use Rattle.insns.specs.declared.Made.{Made}
+use Rattle.decode.specs.Decode.{decodedNumber}
 use Rattle.decode.specs.declared.Decoded.{Decoded}
-use Rattle.operands.specs.OfOp.{partsOf}
-use Rattle.operands.specs.declared.of_op.Parts.{Parts}
+use Rattle.operands.specs.OfOp.{plain, plainOp}
+use Rattle.operands.specs.declared.of_op.PlainOp.{PlainOp}
 use Rattle.vosemaqe.specs.declared.results.Report.{Report}
-use Rattle.vosemaqe.specs.declared.results.Found.{Found}
-use Rattle.vosemaqe.specs.declared.results.Shown.{Shown}
-use Rattle.vosemaqe.specs.declared.results.Coined.{Coined}
+use Rattle.vosemaqe.specs.declared.results.Evaluated.{Evaluated}
+use Rattle.vosemaqe.specs.declared.results.Operands.{Operands}
+use Rattle.vosemaqe.specs.declared.results.Encoded.{Encoded}
 
 -- a destination: 0 is none, r + 1 the register r
 unfoldable pub destOf : ℕ → Dest
@@ -36,37 +39,48 @@ abbrev pub reportOf : Compiled → Report
 reportOf (Done w s r f) = report 0 w s r f
 reportOf (Refused n) = report n 0 0 0 0
 
--- the report and the lent buffers, by their lengths, as the call leaves them
-pub record Compiles (r : Report) (m : Res (ℕ × State)) (code kinds payloads : List ℕ) (c k p : ℕ) : Type 0 where
+-- the cells and the lent buffers, c words, k kinds and p payloads of them, as the call leaves them
+pub record Reported (r : Report) (m : Res (ℕ × State)) (code kinds payloads : List ℕ) (c k p : ℕ) : Type 0 where
   pub answer : r ≡ reportOf (answered m)
   pub words : code ≡ padded (wordsOf m) c
   pub slotKinds : kinds ≡ padded (kindsOf m) k
   pub slotPayloads : payloads ≡ padded (payloadsOf m) p
 
+-- a table compiled with so many places for jumps into code, kinds and payloads: the cells r, and what the three hold at the end
+abbrev pub CompilesTo : List ℕ → ℕ → ℕ → ℕ → ℕ → List ℕ → List ℕ → List ℕ → Report → List ℕ → List ℕ → List ℕ → Type 0
+CompilesTo nodes params locals dest places code kinds payloads r code' kinds' payloads' =
+    Reported r (compileOf nodes params locals (destOf dest) places (length code) (min (length kinds) (length payloads)))
+    code' kinds' payloads' (length code) (length kinds) (length payloads)
+
 -- ---- evaluating: number, kind, payload
 
-abbrev pub found : ℕ → ℕ → ℕ → Found
-found n k p = record { number = n; kind = k; payload = p }
+abbrev pub evaluated : ℕ → ℕ → ℕ → Evaluated
+evaluated n k p = record { number = n; kind = k; payload = p }
 
-abbrev pub foundOf : Result → Found
-foundOf (Answer.is v) = found 0 (kindOf v) (payloadOf v)
-foundOf (Answer.fault n) = found n 0 0
+abbrev pub evaluatedOf : Result → Evaluated
+evaluatedOf (Answer.is v) = evaluated 0 (kindOf v) (payloadOf v)
+evaluatedOf (Answer.fault n) = evaluated n 0 0
 
--- ---- decoding: number, opcode, five operands. Encoding: number, word
+-- ---- decoding: number, opcode, five operands
 
-abbrev pub shown : ℕ → ℕ → ℕ → ℕ → ℕ → ℕ → ℕ → Shown
-shown n o a b c d e = record { number = n; opcode = o; a = a; b = b; c = c; d = d; e = e }
+abbrev pub plainIn : Decoded → PlainOp
+plainIn (Decoded.Is i) = plainOp i
+plainIn Decoded.Bad = plain 0 0 0 0 0 0
 
-abbrev pub shownAs : Parts → Shown
-shownAs p = shown 0 (p .opcode) (p .a) (p .b) (p .c) (p .d) (p .e)
+abbrev pub operands : ℕ → PlainOp → Operands
+operands n p = record { number = n; plain = p }
 
-abbrev pub shownOf : Decoded → Shown
-shownOf (Decoded.Is i) = shownAs (partsOf i)
-shownOf Decoded.Bad = shown undecoded 0 0 0 0 0 0
+abbrev pub operandsOf : Decoded → Operands
+operandsOf d = operands (decodedNumber d) (plainIn d)
 
-abbrev pub coined : ℕ → ℕ → Coined
-coined n w = record { number = n; word = w }
+-- ---- encoding: number, word
 
-abbrev pub coinedOf : Made → Coined
-coinedOf (Made.Fits w) = coined 0 (w .bits)
-coinedOf Made.Refused = coined noFit 0
+abbrev pub wordIn : Made → ℕ
+wordIn (Made.Fits w) = w .bits
+wordIn Made.Refused = 0
+
+abbrev pub encoded : ℕ → ℕ → Encoded
+encoded n w = record { number = n; word = w }
+
+abbrev pub encodedOf : Made → Encoded
+encodedOf m = encoded (madeNumber m) (wordIn m)

@@ -1,19 +1,39 @@
-// The library for C and Rust callers. Each function does what the routine of its name does and gives what that gives, as numbers: the number
-// of the answer is returned, results are left in cells. include/vosemaqe.h is the manual.
+// The library for C and Rust callers. Each function calls the routine of its name and hands on what that answers as numbers: the number of the
+// answer is returned, results are left in the caller's cells. include/vosemaqe.h is the manual.
 mod results;
 
 ghost use mathlib.Core.Path.{_≡_};
-ghost use Prim.Native.Nat.{ℕ, min};
+ghost use Prim.Native.Nat.{ℕ};
 ghost use lib.ListN.{length, replicate};
 ghost use Rattle.faults.specs.Limits.{maxNodes};
 ghost use Rattle.table.specs.Table.{checkOf};
+ghost use Rattle.table.specs.Complete.{completeOf};
 ghost use Rattle.eval.specs.Evaluate.{evaluateOf};
-ghost use Rattle.compile.specs.Compile.{compileOf};
 ghost use Rattle.machine.specs.Run.{out, ran, runOf, runPartOf};
 ghost use Rattle.decode.specs.Decode.{decodeOf};
 ghost use Rattle.decode.specs.Patch.{patchedNumber, patchOf};
+ghost use Rattle.operands.specs.OfOp.{plain};
 ghost use Rattle.operands.specs.Encode.{encodeOf};
-ghost use Rattle.vosemaqe.specs.Results.{destOf, report, Compiles, found, foundOf, shown, shownOf, coined, coinedOf};
+ghost use Rattle.vosemaqe.specs.Results.{destOf, report, CompilesTo, evaluated, evaluatedOf, operands, operandsOf, encoded, encodedOf};
+
+// 10000 * major + 100 * minor + patch: the header's, CHANGELOG's and the Rust crate's too.
+pub const VERSION: u32 = 100;
+
+// So that a program can tell whether it was compiled with the header of the archive that it is linked with.
+#[no_mangle]
+pub extern "C" fn vosemaqe_version() -> u32
+    ensures { λ r. ⌜ r ≡ 100 ⌝ }
+{
+    VERSION
+}
+
+// Fills in first and depth, so that whoever writes a table need not count.
+#[no_mangle]
+pub extern "C" fn vosemaqe_complete(nodes: &mut [u64])
+    ensures { λ _. ⌜ now (nodes .exit) ≡ completeOf (now (nodes .entry)) ⌝ }
+{
+    table::complete::complete(nodes);
+}
 
 // The number of a table with its layout and its destination.
 #[no_mangle]
@@ -23,7 +43,7 @@ pub extern "C" fn vosemaqe_check(nodes: &[u64], params: u64, locals: u64, dest: 
     table::check::check(nodes, params, locals, crate::results::dest_of(dest))
 }
 
-// Compiles a node table; a jump list with room for every accepted table comes with it.
+// Compiles a node table. The jump list is on the stack, with room for the jumps of every accepted table.
 #[no_mangle]
 pub extern "C" fn vosemaqe_compile(
     nodes: &[u64],
@@ -38,7 +58,10 @@ pub extern "C" fn vosemaqe_compile(
     reg: &mut u64,
     frame: &mut u64,
 ) -> u8
-    ensures { λ r. ⌜ Compiles (report r (now (words .exit)) (now (slots .exit)) (now (reg .exit)) (now (frame .exit))) (compileOf (now (nodes .entry)) params locals (destOf dest) maxNodes (length (now (code .entry))) (min (length (now («slot_kinds» .entry))) (length (now («slot_payloads» .entry))))) (now (code .exit)) (now («slot_kinds» .exit)) (now («slot_payloads» .exit)) (length (now (code .entry))) (length (now («slot_kinds» .entry))) (length (now («slot_payloads» .entry))) ⌝ }
+    ensures { λ r. ⌜ CompilesTo (now (nodes .entry)) params locals dest maxNodes
+        (now (code .entry)) (now («slot_kinds» .entry)) (now («slot_payloads» .entry))
+        (report r (now (words .exit)) (now (slots .exit)) (now (reg .exit)) (now (frame .exit)))
+        (now (code .exit)) (now («slot_kinds» .exit)) (now («slot_payloads» .exit)) ⌝ }
 {
     let c = compile::compile(
         nodes,
@@ -57,7 +80,7 @@ pub extern "C" fn vosemaqe_compile(
     r.number
 }
 
-// The same with a jump list of the caller's, which is left zero.
+// The same with a jump list of the caller's, for callers whose stack is small; it is left zero.
 #[no_mangle]
 pub extern "C" fn vosemaqe_compile_with(
     nodes: &[u64],
@@ -73,7 +96,10 @@ pub extern "C" fn vosemaqe_compile_with(
     reg: &mut u64,
     frame: &mut u64,
 ) -> u8
-    ensures { λ r. ⌜ Compiles (report r (now (words .exit)) (now (slots .exit)) (now (reg .exit)) (now (frame .exit))) (compileOf (now (nodes .entry)) params locals (destOf dest) (length (now (jumps .entry))) (length (now (code .entry))) (min (length (now («slot_kinds» .entry))) (length (now («slot_payloads» .entry))))) (now (code .exit)) (now («slot_kinds» .exit)) (now («slot_payloads» .exit)) (length (now (code .entry))) (length (now («slot_kinds» .entry))) (length (now («slot_payloads» .entry))) ⌝ }
+    ensures { λ r. ⌜ CompilesTo (now (nodes .entry)) params locals dest (length (now (jumps .entry)))
+        (now (code .entry)) (now («slot_kinds» .entry)) (now («slot_payloads» .entry))
+        (report r (now (words .exit)) (now (slots .exit)) (now (reg .exit)) (now (frame .exit)))
+        (now (code .exit)) (now («slot_kinds» .exit)) (now («slot_payloads» .exit)) ⌝ }
     ensures { λ _. ⌜ now (jumps .exit) ≡ replicate {A = ℕ} (length (now (jumps .entry))) 0 ⌝ }
 {
     let c = compile::compile_with(
@@ -105,16 +131,17 @@ pub extern "C" fn vosemaqe_evaluate(
     kind: &mut u64,
     payload: &mut u64,
 ) -> u8
-    ensures { λ r. ⌜ found r (now (kind .exit)) (now (payload .exit)) ≡ foundOf (evaluateOf (now (nodes .entry)) params locals (now (kinds .entry)) (now (payloads .entry))) ⌝ }
+    ensures { λ r. ⌜ evaluated r (now (kind .exit)) (now (payload .exit))
+        ≡ evaluatedOf (evaluateOf (now (nodes .entry)) params locals (now (kinds .entry)) (now (payloads .entry))) ⌝ }
 {
     let a = eval::evaluate(nodes, params, locals, kinds, payloads);
-    let f = crate::results::found_of(a);
-    *kind = f.kind;
-    *payload = f.payload;
-    f.number
+    let r = crate::results::evaluated_of(a);
+    *kind = r.kind;
+    *payload = r.payload;
+    r.number
 }
 
-// The words from a start on, with at most `budget` steps.
+// Runs the words from a start on, at most `budget` steps.
 #[no_mangle]
 pub extern "C" fn vosemaqe_run(
     words: &[u64],
@@ -127,7 +154,8 @@ pub extern "C" fn vosemaqe_run(
     steps: &mut u64,
     position: &mut u64,
 ) -> u8
-    ensures { λ r. ⌜ out (ran r (now (steps .exit)) (now (position .exit))) (now (kinds .exit)) (now (payloads .exit)) ≡ runOf (now (words .entry)) (now («slot_kinds» .entry)) (now («slot_payloads» .entry)) budget start (now (kinds .entry)) (now (payloads .entry)) ⌝ }
+    ensures { λ r. ⌜ out (ran r (now (steps .exit)) (now (position .exit))) (now (kinds .exit)) (now (payloads .exit))
+        ≡ runOf (now (words .entry)) (now («slot_kinds» .entry)) (now («slot_payloads» .entry)) budget start (now (kinds .entry)) (now (payloads .entry)) ⌝ }
 {
     let r = run::run(
         words,
@@ -143,7 +171,7 @@ pub extern "C" fn vosemaqe_run(
     r.number
 }
 
-// The words of a store from an entry to an end. A position counts from the entry.
+// Runs the words of a store from an entry to an end: several compiled expressions can share one store. A position counts from the entry.
 #[no_mangle]
 pub extern "C" fn vosemaqe_run_part(
     store: &[u64],
@@ -157,7 +185,9 @@ pub extern "C" fn vosemaqe_run_part(
     steps: &mut u64,
     position: &mut u64,
 ) -> u8
-    ensures { λ r. ⌜ out (ran r (now (steps .exit)) (now (position .exit))) (now (kinds .exit)) (now (payloads .exit)) ≡ runPartOf (now (store .entry)) entry end (now («slot_kinds» .entry)) (now («slot_payloads» .entry)) budget (now (kinds .entry)) (now (payloads .entry)) ⌝ }
+    ensures { λ r. ⌜ out (ran r (now (steps .exit)) (now (position .exit))) (now (kinds .exit)) (now (payloads .exit))
+        ≡ runPartOf (now (store .entry)) entry end (now («slot_kinds» .entry)) (now («slot_payloads» .entry)) budget
+        (now (kinds .entry)) (now (payloads .entry)) ⌝ }
 {
     let r = run::run_part(
         store,
@@ -185,16 +215,18 @@ pub extern "C" fn vosemaqe_decode(
     d: &mut u64,
     e: &mut u64,
 ) -> u8
-    ensures { λ r. ⌜ shown r (now (opcode .exit)) (now (a .exit)) (now (b .exit)) (now (c .exit)) (now (d .exit)) (now (e .exit)) ≡ shownOf (decodeOf word) ⌝ }
+    ensures { λ r. ⌜ operands r (plain (now (opcode .exit)) (now (a .exit)) (now (b .exit)) (now (c .exit)) (now (d .exit)) (now (e .exit)))
+        ≡ operandsOf (decodeOf word) ⌝ }
 {
-    let s = crate::results::shown_of(decode::decode(word));
-    *opcode = s.opcode;
-    *a = s.a;
-    *b = s.b;
-    *c = s.c;
-    *d = s.d;
-    *e = s.e;
-    s.number
+    let r = crate::results::operands_of(decode::decode(word));
+    let p = r.plain;
+    *opcode = p.opcode;
+    *a = p.a;
+    *b = p.b;
+    *c = p.c;
+    *d = p.d;
+    *e = p.e;
+    r.number
 }
 
 // The word of an opcode and its operands.
@@ -208,18 +240,19 @@ pub extern "C" fn vosemaqe_encode(
     e: u64,
     word: &mut u64,
 ) -> u8
-    ensures { λ r. ⌜ coined r (now (word .exit)) ≡ coinedOf (encodeOf opcode a b c d e) ⌝ }
+    ensures { λ r. ⌜ encoded r (now (word .exit)) ≡ encodedOf (encodeOf opcode a b c d e) ⌝ }
 {
-    let m = crate::results::coined_of(operands::encode::encode(opcode, a, b, c, d, e));
-    *word = m.word;
-    m.number
+    let r = crate::results::encoded_of(operands::encode::encode(opcode, a, b, c, d, e));
+    *word = r.word;
+    r.number
 }
 
 // Aims the branch at a position at a target.
 #[no_mangle]
 pub extern "C" fn vosemaqe_patch(words: &mut [u64], at: usize, target: u64) -> u8
-    ensures { λ r. ⌜ (r ≡ patchedNumber (patchOf (now (words .entry)) at target .answer)) × (now (words .exit) ≡ patchOf (now (words .entry)) at target .words) ⌝ }
+    ensures { λ r. ⌜ (r ≡ patchedNumber (patchOf (now (words .entry)) at target .answer))
+        × (now (words .exit) ≡ patchOf (now (words .entry)) at target .words) ⌝ }
 {
     let p = decode::patch::patch(words, at, target);
-    crate::results::patched_number(p)
+    decode::patch::number_of(p)
 }

@@ -1,16 +1,15 @@
-// How the answers of the crates below stand as numbers, one for each cell of a caller's: the number of the answer, and 0 in every cell wherever it is not 0.
+// What a call leaves in the caller's result cells: the number of the answer, and 0 in every cell wherever the number is not 0.
 use compile::buffers::Compiled;
 use decode::Decoded;
-use decode::patch::Patched;
 use insns::Made;
+use operands::of_op::PlainOp;
 use table::Dest;
 use value::answer::Answer;
 ghost use mathlib.Core.Path.{_≡_};
 ghost use Rattle.value.specs.Answer.{resultOf};
-ghost use Rattle.decode.specs.Patch.{patchedNumber};
-ghost use Rattle.vosemaqe.specs.Results.{destOf, reportOf, foundOf, shownOf, coinedOf};
+ghost use Rattle.vosemaqe.specs.Results.{destOf, reportOf, evaluatedOf, operandsOf, encodedOf};
 
-// What compiling leaves: the number, and the cells.
+// The cells of a compile.
 pub struct Report {
     pub number: u8,
     pub words: u64,
@@ -19,31 +18,26 @@ pub struct Report {
     pub frame: u64,
 }
 
-// What evaluating leaves.
-pub struct Found {
+// The cells of an evaluation.
+pub struct Evaluated {
     pub number: u8,
     pub kind: u64,
     pub payload: u64,
 }
 
-// What decoding leaves.
-pub struct Shown {
+// The cells of a decoded word.
+pub struct Operands {
     pub number: u8,
-    pub opcode: u64,
-    pub a: u64,
-    pub b: u64,
-    pub c: u64,
-    pub d: u64,
-    pub e: u64,
+    pub plain: PlainOp,
 }
 
-// What encoding leaves.
-pub struct Coined {
+// The cell of an encoded word.
+pub struct Encoded {
     pub number: u8,
     pub word: u64,
 }
 
-// A destination: 0 is none, r + 1 the register r.
+// C has no enum with data, so a destination is one number: 0 is none, r + 1 is register r.
 pub fn dest_of(dest: u64) -> Dest
     ensures { λ r. ⌜ r ≡ destOf dest ⌝ }
 {
@@ -74,16 +68,16 @@ pub fn report_of(c: Compiled) -> Report
     }
 }
 
-pub fn found_of(a: Answer) -> Found
-    ensures { λ r. ⌜ r ≡ foundOf (resultOf a) ⌝ }
+pub fn evaluated_of(a: Answer) -> Evaluated
+    ensures { λ r. ⌜ r ≡ evaluatedOf (resultOf a) ⌝ }
 {
     match a {
-        Answer::Is(v) => Found {
+        Answer::Is(v) => Evaluated {
             number: faults::NONE,
             kind: value::kind_of(v) as u64,
             payload: value::payload_of(v),
         },
-        Answer::Fault(n) => Found {
+        Answer::Fault(n) => Evaluated {
             number: n,
             kind: 0,
             payload: 0,
@@ -91,57 +85,39 @@ pub fn found_of(a: Answer) -> Found
     }
 }
 
-pub fn shown_of(d: Decoded) -> Shown
-    ensures { λ r. ⌜ r ≡ shownOf d ⌝ }
+pub fn operands_of(d: Decoded) -> Operands
+    ensures { λ r. ⌜ r ≡ operandsOf d ⌝ }
 {
     match d {
-        Decoded::Is(i) => {
-            let p = operands::of_op::parts_of(i);
-            Shown {
-                number: faults::NONE,
-                opcode: p.opcode,
-                a: p.a,
-                b: p.b,
-                c: p.c,
-                d: p.d,
-                e: p.e,
-            }
-        }
-        Decoded::Bad => Shown {
+        Decoded::Is(i) => Operands {
+            number: faults::NONE,
+            plain: operands::of_op::plain_op(i),
+        },
+        Decoded::Bad => Operands {
             number: faults::UNDECODED,
-            opcode: 0,
-            a: 0,
-            b: 0,
-            c: 0,
-            d: 0,
-            e: 0,
+            plain: PlainOp {
+                opcode: 0,
+                a: 0,
+                b: 0,
+                c: 0,
+                d: 0,
+                e: 0,
+            },
         },
     }
 }
 
-pub fn coined_of(m: Made) -> Coined
-    ensures { λ r. ⌜ r ≡ coinedOf m ⌝ }
+pub fn encoded_of(m: Made) -> Encoded
+    ensures { λ r. ⌜ r ≡ encodedOf m ⌝ }
 {
     match m {
-        Made::Fits(w) => Coined {
+        Made::Fits(w) => Encoded {
             number: faults::NONE,
             word: w.bits,
         },
-        Made::Refused => Coined {
+        Made::Refused => Encoded {
             number: faults::NO_FIT,
             word: 0,
         },
-    }
-}
-
-pub fn patched_number(p: Patched) -> u8
-    ensures { λ r. ⌜ r ≡ patchedNumber p ⌝ }
-{
-    match p {
-        Patched::Done => faults::NONE,
-        Patched::NoWord => faults::NO_WORD,
-        Patched::Undecoded => faults::UNDECODED,
-        Patched::NotBranch => faults::NOT_BRANCH,
-        Patched::TooFar => faults::TOO_FAR,
     }
 }

@@ -3,51 +3,53 @@ use decode::Decoded;
 use decode::patch::Patched;
 use insns::Insn;
 use insns::Made;
+use insns::fields::HALF_16;
+use insns::fields::HALF_32;
+use insns::fields::SIZE_8;
+use insns::fields::SIZE_16;
+use insns::fields::SIZE_32;
 use insns::op::Disp;
 use insns::op::Imm16;
 use insns::op::Imm40;
-use operands::of_op::Parts;
-use operands::of_op::parts_of;
+use operands::of_op::PlainOp;
+use operands::of_op::plain_op;
 
 // An operand of a record as each type. The signed ones are sign-extended to 64 bits.
 fn small_of(x: u64) -> u8 {
-    (x % 256) as u8
+    (x % SIZE_8) as u8
 }
 
 fn reg_of(x: u64) -> u16 {
-    (x % 65536) as u16
+    (x % SIZE_16) as u16
 }
 
 fn wide_of(x: u64) -> u32 {
-    (x % 4294967296) as u32
+    (x % SIZE_32) as u32
 }
 
 fn imm16_of(x: u64) -> Imm16 {
-    let y = x % 65536;
-    if y < 32768 {
+    let y = x % SIZE_16;
+    if y < HALF_16 {
         return Imm16 { n: y as i16 };
     }
     Imm16 {
-        n: !((65535 - y) as i16),
+        n: !((SIZE_16 - 1 - y) as i16),
     }
 }
 
 fn disp_of(x: u64) -> Disp {
-    let y = x % 4294967296;
-    if y < 2147483648 {
+    let y = x % SIZE_32;
+    if y < HALF_32 {
         return Disp { by: y as i32 };
     }
     Disp {
-        by: !((4294967295 - y) as i32),
+        by: !((SIZE_32 - 1 - y) as i32),
     }
 }
 
 fn imm40_of(x: u64) -> Imm40 {
-    if x < 9223372036854775808 {
-        return Imm40 { raw: x as i64 };
-    }
     Imm40 {
-        raw: !((18446744073709551615 - x) as i64),
+        raw: int64::sign::signed(x),
     }
 }
 
@@ -227,31 +229,23 @@ fn wide(op: u8) -> u64 {
 }
 
 // The opcode of a decoded instruction and its operands in declared order.
-fn write_parts(p: Parts) {
-    write_row(0, p.opcode, p.a, p.b, p.c, p.d, p.e);
+fn write_plain(n: u64, p: PlainOp) {
+    write_row(n, p.opcode, p.a, p.b, p.c, p.d, p.e);
 }
 
 fn write_made(m: Made) {
+    let n = wide(insns::number_of(m));
     match m {
-        Made::Fits(w) => write_row(0, w.bits, 0, 0, 0, 0, 0),
-        Made::Refused => write_row(wide(faults::NO_FIT), 0, 0, 0, 0, 0, 0),
+        Made::Fits(w) => write_row(n, w.bits, 0, 0, 0, 0, 0),
+        Made::Refused => write_row(n, 0, 0, 0, 0, 0, 0),
     }
 }
 
 fn write_decoded(d: Decoded) {
+    let n = wide(decode::number_of(d));
     match d {
-        Decoded::Is(i) => write_parts(parts_of(i)),
-        Decoded::Bad => write_row(wide(faults::UNDECODED), 0, 0, 0, 0, 0, 0),
-    }
-}
-
-fn number_of(p: Patched) -> u8 {
-    match p {
-        Patched::Done => faults::NONE,
-        Patched::NoWord => faults::NO_WORD,
-        Patched::Undecoded => faults::UNDECODED,
-        Patched::NotBranch => faults::NOT_BRANCH,
-        Patched::TooFar => faults::TOO_FAR,
+        Decoded::Is(i) => write_plain(n, plain_op(i)),
+        Decoded::Bad => write_row(n, 0, 0, 0, 0, 0, 0),
     }
 }
 
@@ -267,7 +261,7 @@ fn patch_in(store: &mut [u64], n: u64, at: u64, target: u64) -> Patched {
 // Patches a store of four words, of which n are in use, and writes the number and the store.
 fn replay_patch(n: u64, at: u64, target: u64, mut store: [u64; 4]) {
     let p = patch_in(&mut store, n, at, target);
-    replay_io::write_word(wide(number_of(p)));
+    replay_io::write_word(wide(decode::patch::number_of(p)));
     replay_io::write_words(&store);
     replay_io::write_word(0);
     replay_io::write_word(0);

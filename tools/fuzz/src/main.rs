@@ -144,7 +144,7 @@ impl Fuzz {
         let (kinds, payloads) = (self.length(20), self.length(20));
         (j.max_words, j.max_slots) = (room, kinds.min(payloads));
         let places = (j.table.len() / 4).div_ceil(2);
-        let jumps = if self.r.chance(60) { places } else { self.length(places as u64) };
+        let jumps = if self.r.chance(30) { places } else { self.length(places as u64) };
         let a: [bool; 6] = std::array::from_fn(|_| self.above());
         let nodes = self.nodes.lend(&j.table, a[0]);
         let code = self.code.lend(&vec![JUNK; room], a[1]);
@@ -159,9 +159,7 @@ impl Fuzz {
                 ffi::vosemaqe_compile(nodes, j.table.len(), j.params, j.locals, dest(&j), code, room, sk, kinds, sp, payloads, c, c.add(1), c.add(2), c.add(3))
             }
         };
-        let mut want = self.oracle.compile(&j);
-        // a short list may run out first, or may not
-        if with && jumps < places && number == 7 { want = Err(Refused(7)) }
+        let want = if with { runner::with_list(&mut self.oracle, &j, jumps) } else { self.oracle.compile(&j) };
         let literals = j.table.chunks(4).filter(|n| matches!(n[0], tables::INT | tables::FLOAT)).count();
         let pad = |mut v: Vec<u64>, n: usize| { v.resize(n, 0); v };
         let ok = match &want {
@@ -255,15 +253,41 @@ impl Fuzz {
         self.expect(number == want && self.code.holds(&words), number, || format!("patch {before:x?} at {at} to {target}: {number}, not {want}; left {:x?}", self.code.now::<u64>()))
     }
 
+    /// A table that the check accepts stays as it is.
+    fn complete(&mut self) -> Outcome {
+        let (j, above) = (self.job(), self.above());
+        let nodes = self.nodes.lend(&j.table, above);
+        unsafe { ffi::vosemaqe_complete(nodes, j.table.len()) };
+        let want = completed(&j.table);
+        let stays = tables::check(&j.table, j.params, j.locals, j.dst) != 0 || want == j.table;
+        self.expect(stays && self.nodes.holds(&want), 0, || format!("complete {j:?}: {:?}, not {want:?}", self.nodes.now::<u64>()))
+    }
+
     fn expect(&self, ok: bool, number: u8, what: impl Fn() -> String) -> Outcome { if ok { Ok(number) } else { Err(what()) } }
+}
+
+/// First and depth by the header: of a node whose children are missing both are 0; an unknown kind is taken to have three.
+fn completed(table: &[u64]) -> Vec<u64> {
+    let mut t = table.to_vec();
+    for i in 0..t.len() / 4 {
+        let (mut first, mut deepest, mut missing) = (i, 0, false);
+        for _ in 0..tables::arity(t[4 * i]).unwrap_or(3) {
+            missing |= first == 0;
+            if missing { break }
+            deepest = deepest.max(t[4 * first - 1]);
+            first = t[4 * first - 2] as usize;
+        }
+        (t[4 * i + 2], t[4 * i + 3]) = if missing { (0, 0) } else { (first as u64, deepest + 1) };
+    }
+    t
 }
 
 /// 0 for none, r + 1 for register r.
 fn dest(j: &Job) -> u64 { j.dst.map_or(0, |d| d + 1) }
 
-const NAMES: [&str; 9] = ["check", "compile", "compile_with", "evaluate", "run", "run_part", "decode", "encode", "patch"];
+const NAMES: [&str; 10] = ["check", "compile", "compile_with", "evaluate", "run", "run_part", "decode", "encode", "patch", "complete"];
 /// Of a hundred calls.
-const SHARE: [u64; 9] = [14, 10, 6, 14, 14, 8, 12, 14, 8];
+const SHARE: [u64; 10] = [14, 10, 6, 14, 14, 8, 10, 12, 8, 4];
 
 /// The fences themselves: every byte of a buffer and of its margin is looked at. With the argument `touch` the program reads one byte past a
 /// buffer, above or below, and has to be stopped by that.
@@ -293,7 +317,7 @@ fn main() {
     runner::quiet();
     let [calls, seed] = runner::numbers([100_000, 1]);
     let mut f = Fuzz::new(seed);
-    let (mut made, began) = ([0u64; 9], std::time::Instant::now());
+    let (mut made, began) = ([0u64; 10], std::time::Instant::now());
     for _ in 0..calls {
         let mut ticket = f.r.below(SHARE.iter().sum());
         let which = SHARE.iter().position(|s| if ticket < *s { true } else { ticket -= s; false }).unwrap();
@@ -303,7 +327,8 @@ fn main() {
             3 => f.evaluate(),
             4 | 5 => f.run(which == 5),
             6 | 7 => f.decode_encode(which == 7),
-            _ => f.patch(),
+            8 => f.patch(),
+            _ => f.complete(),
         };
         made[which] += 1;
         match outcome {

@@ -1,4 +1,4 @@
--- `agree::are_wide` meets its contract. The invariant: the words before i are 64-bit words; the measure is what is left. Assumes nothing.
+-- `agree::are_wide` meets its contract. The invariant: the words before i are 64-bit words; the measure is what is left.
 use Prim.Native.Nat.{_-_}
 use lib.ListN.{length}
 use native.Mathlib.Omega.{arith}

@@ -1,4 +1,4 @@
--- `agree::compile_evaluate_and_run` meets its contract: what compiling left is what `evaluate_and_run` is lent; each way out is a law of `Entry`. Assumes nothing.
+-- `agree::compile_evaluate_and_run` meets its contract: what compiling left is what `evaluate_and_run` is lent; each way out is a law of `Entry`.
 use borrow.Author.Needs.{needs}
 use Rattle.claim.proofs.Entry.{front-fits, front-count, accepted-whole, refused-whole}
 use Rattle.agree.proofs.compile_evaluate_and_run.Statement.{statement}

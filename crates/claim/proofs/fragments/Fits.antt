@@ -1,4 +1,4 @@
--- Which instructions fit their fields, so that they have a word and the word decodes to them again. Assumes nothing.
+-- Which instructions fit their fields, so that they have a word and the word decodes to them again; and that these are of the opcodes that are emitted.
 use mathlib.Core.Path.{_≡_, refl}
 use mathlib.Core.Bool.{true}
 use mathlib.Core.List.{List, [], _∷_, _++_, map}
@@ -11,11 +11,17 @@ use borrow.Author.Tests.{lt-ltb, ltb-true}
 use Rattle.faults.specs.Limits.{maxRegisters}
 use Rattle.insns.specs.declared.op.Op.{Op}
 use Rattle.insns.specs.declared.op.Three.{Three}
+use Rattle.insns.specs.declared.op.Shift.{Shift}
+use Rattle.insns.specs.declared.op.Arith.{Arith}
+use Rattle.insns.specs.declared.op.Sense.{Sense}
+use Rattle.insns.specs.declared.op.Cmp.{Cmp}
 use Rattle.insns.specs.declared.op.Imm40.{Imm40}
 use Rattle.insns.specs.declared.Made.{Made}
 use Rattle.insns.specs.Fields.{Field, rawBits, raw, pack, allFit, wordIf}
 use Rattle.insns.specs.Bits.{twos, isRaw}
-use Rattle.insns.specs.Insns.{opOf, formOf, fieldsOf, madeOf}
+use Rattle.insns.specs.Insns.{formOf, fieldsOf, madeOf}
+use Rattle.insns.specs.Opcodes.{threeOp, shiftOp, arithOp, ifOp, jumpOp, jumpImmOp, opOf}
+use Rattle.table.specs.Tree as Tree
 use Rattle.decode.specs.Decode.{decodeOf}
 use Rattle.decode.specs.declared.Decoded.{Decoded}
 use Rattle.decode.specs.declared.patch.Branch.{Branch}
@@ -23,8 +29,10 @@ use Rattle.fold.specs.declared.Tail.{Tail}
 use Rattle.fold.specs.declared.Tail.the-variants as Tail
 use Rattle.fold.specs.Literal.{fitsImm40}
 use Rattle.fold.specs.Fold.{tailOp}
+use Rattle.fold.specs.Opcodes.{threeOf}
 use Rattle.emit.specs.Steps.{loadOp, rawNil, rawTrue, rawFalse, rawInt}
 use Rattle.decode.proofs.RoundTrip.{decode-made}
+use Rattle.claim.specs.Emitted.{isEmitted, opcodeOf}
 use Rattle.claim.proofs.fragments.Frag.{constOp, movOp, aimed}
 
 -- ---- words
@@ -38,6 +46,7 @@ wordsOf is = map word is
 
 pub record Fits (i : Op) : Type 0 where
   pub all : allFit (fieldsOf i) ≡ true
+  pub emitted : isEmitted (opcodeOf i) ≡ true
 
 pub made : {i : Op} → Fits i → madeOf i ≡ Made.Fits (record { bits = word i })
 unfolding word wordIf
@@ -89,10 +98,49 @@ int-raw (negsuc n) h =
     rw e
     (raw-low (negsuc (4 * n + 3)) (4 * (2 ^ 38 - suc n)) (rw (lt-ltb (4 * n + 3) (2 ^ 39) (omega linear)) f) (omega linear) (fourth (2 ^ 38 - suc n)))
 
+-- ---- opcodes
+
+pub three-emitted : (o : Tree.Arith) → isEmitted (threeOp (threeOf o)) ≡ true
+three-emitted Tree.bitAnd = refl
+three-emitted Tree.bitOr = refl
+three-emitted Tree.bitXor = refl
+three-emitted Tree.lshift = refl
+three-emitted Tree.rshift = refl
+three-emitted Tree.add = refl
+three-emitted Tree.sub = refl
+three-emitted Tree.mul = refl
+three-emitted Tree.div = refl
+three-emitted Tree.mod′ = refl
+
+shift-emitted : (o : Shift) → isEmitted (shiftOp o) ≡ true
+shift-emitted Shift.Left = refl
+shift-emitted Shift.Right = refl
+
+arith-emitted : (o : Arith) → isEmitted (arithOp o) ≡ true
+arith-emitted Arith.Plus = refl
+arith-emitted Arith.Minus = refl
+arith-emitted Arith.Times = refl
+
+if-emitted : (s : Sense) → isEmitted (ifOp s) ≡ true
+if-emitted Sense.Yes = refl
+if-emitted Sense.No = refl
+
+jump-emitted : (c : Cmp) → (isEmitted (jumpOp c) ≡ true) × (isEmitted (jumpImmOp c) ≡ true)
+jump-emitted Cmp.Eq = (refl, refl)
+jump-emitted Cmp.Ne = (refl, refl)
+jump-emitted Cmp.Lt = (refl, refl)
+jump-emitted Cmp.Le = (refl, refl)
+jump-emitted Cmp.Gt = (refl, refl)
+jump-emitted Cmp.Ge = (refl, refl)
+jump-emitted Cmp.Nlt = (refl, refl)
+jump-emitted Cmp.Nle = (refl, refl)
+jump-emitted Cmp.Ngt = (refl, refl)
+jump-emitted Cmp.Nge = (refl, refl)
+
 -- ---- instructions
 
 pub load-fits : (z : Imm40) (d : ℕ) → rawBits (z .raw) < 2 ^ 40 → d < maxRegisters → Fits (loadOp z d)
-load-fits z d h hd = record { all = field (2 ^ 16) d (raw (z .raw) ∷ []) (omega linear) (field (2 ^ 40) (rawBits (z .raw)) [] h refl) }
+load-fits z d h hd = record { all = field (2 ^ 16) d (raw (z .raw) ∷ []) (omega linear) (field (2 ^ 40) (rawBits (z .raw)) [] h refl); emitted = refl }
 
 pub nil-fits : (d : ℕ) → d < maxRegisters → Fits (loadOp rawNil d)
 unfolding rawBits twos isRaw
@@ -110,17 +158,18 @@ pub int-fits : (z : ℤ) (d : ℕ) → fitsImm40 z ≡ true → d < maxRegisters
 int-fits z d h = load-fits (rawInt z) d (int-raw z h)
 
 pub const-fits : (k d : ℕ) → k < 2 ^ 32 → d < maxRegisters → Fits (constOp k d)
-const-fits k d h hd = record { all = field (2 ^ 16) d ((2 ^ 32, k) ∷ []) (omega linear) (field (2 ^ 32) k [] h refl) }
+const-fits k d h hd = record { all = field (2 ^ 16) d ((2 ^ 32, k) ∷ []) (omega linear) (field (2 ^ 32) k [] h refl); emitted = refl }
 
 pub mov-fits : (d r : ℕ) → d < maxRegisters → r < maxRegisters → Fits (movOp d r)
-mov-fits d r hd hr = record { all = field (2 ^ 16) d ((2 ^ 16, r) ∷ []) (omega linear) (field (2 ^ 16) r [] (omega linear) refl) }
+mov-fits d r hd hr = record { all = field (2 ^ 16) d ((2 ^ 16, r) ∷ []) (omega linear) (field (2 ^ 16) r [] (omega linear) refl); emitted = refl }
 
-pub three-fits : (o : Three) (d a b : ℕ) → d < maxRegisters → a < maxRegisters → b < maxRegisters → Fits (Op.Three o d a b)
-three-fits o d a b hd ha hb =
+pub three-fits : (o : Three) → isEmitted (threeOp o) ≡ true → (d a b : ℕ) → d < maxRegisters → a < maxRegisters → b < maxRegisters → Fits (Op.Three o d a b)
+three-fits o is d a b hd ha hb =
     record {
       all =
           field (2 ^ 16) d ((2 ^ 16, a) ∷ (2 ^ 16, b) ∷ []) (omega linear)
           (field (2 ^ 16) a ((2 ^ 16, b) ∷ []) (omega linear) (field (2 ^ 16) b [] (omega linear) refl));
+      emitted = is;
     }
 
 -- what a fold brings with it fits
@@ -132,19 +181,21 @@ TailFits (Tail.Mask lo len) = lo + len ≤ 62
 TailFits (Tail.ShiftMask k lo len) = (k < 64) × (lo + len ≤ 62)
 
 pub tail-fits : (tail : Tail) → TailFits tail → (d r : ℕ) → d < maxRegisters → r < maxRegisters → Fits (tailOp tail d r)
-tail-fits Tail.Not h d r hd hr = record { all = field (2 ^ 16) d ((2 ^ 16, r) ∷ []) (omega linear) (field (2 ^ 16) r [] (omega linear) refl) }
+tail-fits Tail.Not h d r hd hr = record { all = field (2 ^ 16) d ((2 ^ 16, r) ∷ []) (omega linear) (field (2 ^ 16) r [] (omega linear) refl); emitted = refl }
 tail-fits (Tail.Imm o z) h d r hd hr =
     let t = twos (2 ^ 15) (z .n) in
     record {
       all =
           field (2 ^ 16) d ((2 ^ 16, r) ∷ (2 ^ 16, t) ∷ []) (omega linear)
           (field (2 ^ 16) r ((2 ^ 16, t) ∷ []) (omega linear) (field (2 ^ 16) t [] (omega (linear, twos-low (2 ^ 15) (z .n) h)) refl));
+      emitted = arith-emitted o;
     }
 tail-fits (Tail.Shift o k) h d r hd hr =
     record {
       all =
           field (2 ^ 16) d ((2 ^ 16, r) ∷ (2 ^ 6, k) ∷ []) (omega linear)
           (field (2 ^ 16) r ((2 ^ 6, k) ∷ []) (omega linear) (field (2 ^ 6) k [] (omega linear) refl));
+      emitted = shift-emitted o;
     }
 tail-fits (Tail.Mask lo len) h d r hd hr =
     record {
@@ -152,6 +203,7 @@ tail-fits (Tail.Mask lo len) h d r hd hr =
           field (2 ^ 16) d ((2 ^ 16, r) ∷ (2 ^ 6, lo) ∷ (2 ^ 6, len) ∷ []) (omega linear)
           (field (2 ^ 16) r ((2 ^ 6, lo) ∷ (2 ^ 6, len) ∷ []) (omega linear)
           (field (2 ^ 6) lo ((2 ^ 6, len) ∷ []) (omega linear) (field (2 ^ 6) len [] (omega linear) refl)));
+      emitted = refl;
     }
 tail-fits (Tail.ShiftMask k lo len) h d r hd hr =
     record {
@@ -160,6 +212,7 @@ tail-fits (Tail.ShiftMask k lo len) h d r hd hr =
           (field (2 ^ 16) r ((2 ^ 6, k) ∷ (2 ^ 6, lo) ∷ (2 ^ 6, len) ∷ []) (omega linear)
           (field (2 ^ 6) k ((2 ^ 6, lo) ∷ (2 ^ 6, len) ∷ []) (omega (linear, h .0))
           (field (2 ^ 6) lo ((2 ^ 6, len) ∷ []) (omega (linear, h .1)) (field (2 ^ 6) len [] (omega (linear, h .1)) refl))));
+      emitted = refl;
     }
 
 -- ---- branches, of a displacement that 24 bits hold
@@ -176,13 +229,14 @@ BranchFits Branch.Jmp = Unit {0}
 pub branch-fits : (b : Branch) → BranchFits b → (k : ℕ) → k < far → Fits (aimed b k)
 branch-fits (Branch.If s r) h k hk =
     let t = twos (2 ^ 31) (pos k) in
-    record { all = field (2 ^ 16) r ((2 ^ 32, t) ∷ []) (omega linear) (field (2 ^ 32) t [] (omega (linear, twos-low (2 ^ 31) (pos k) (omega linear))) refl) }
+    record { all = field (2 ^ 16) r ((2 ^ 32, t) ∷ []) (omega linear) (field (2 ^ 32) t [] (omega (linear, twos-low (2 ^ 31) (pos k) (omega linear))) refl); emitted = if-emitted s }
 branch-fits (Branch.Jump c a b) h k hk =
     let t = twos (2 ^ 23) (pos k) in
     record {
       all =
           field (2 ^ 16) a ((2 ^ 16, b) ∷ (2 ^ 24, t) ∷ []) (omega (linear, h .0))
           (field (2 ^ 16) b ((2 ^ 24, t) ∷ []) (omega (linear, h .1)) (field (2 ^ 24) t [] (omega (linear, twos-low (2 ^ 23) (pos k) hk)) refl));
+      emitted = jump-emitted c .0;
     }
 branch-fits (Branch.JumpImm c r z) h k hk =
     let t = twos (2 ^ 23) (pos k) in
@@ -192,7 +246,8 @@ branch-fits (Branch.JumpImm c r z) h k hk =
           field (2 ^ 16) r ((2 ^ 16, i) ∷ (2 ^ 24, t) ∷ []) (omega (linear, h .0))
           (field (2 ^ 16) i ((2 ^ 24, t) ∷ []) (omega (linear, twos-low (2 ^ 15) (z .n) (h .1)))
           (field (2 ^ 24) t [] (omega (linear, twos-low (2 ^ 23) (pos k) hk)) refl));
+      emitted = jump-emitted c .1;
     }
 branch-fits Branch.Jmp h k hk =
     let t = twos (2 ^ 31) (pos k) in
-    record { all = field (2 ^ 32) t [] (omega (linear, twos-low (2 ^ 31) (pos k) (omega linear))) refl }
+    record { all = field (2 ^ 32) t [] (omega (linear, twos-low (2 ^ 31) (pos k) (omega linear))) refl; emitted = refl }

@@ -25,7 +25,6 @@ use Rattle.fold.specs.Literal.{fits16, bitRun, litOf, constOf, immOf, immLit, a
 use Rattle.fold.specs.Fold.{shiftBy, shiftedBy, maskFold, shiftFold, immFold, foldBy, foldLit, foldOf}
 use Rattle.claim.proofs.fragments.Fits.{TailFits}
 use Rattle.claim.proofs.fragments.Laws.{mask-is}
-use Rattle.claim.proofs.fragments.Short.{short}
 
 abbrev pub AmountFits : Amount → Type 0
 AmountFits (By k) = k < 64

@@ -16,7 +16,7 @@ use Rattle.insns.specs.declared.op.Sense.the-variants as Sense
 use Rattle.insns.specs.declared.op.Imm16.{Imm16 as Small}
 use Rattle.insns.specs.declared.op.Imm40.{Imm40}
 use Rattle.insns.specs.declared.op.Cmp.{Cmp as JumpCmp}
-use Rattle.decode.specs.Patch.{branchBy}
+use Rattle.decode.specs.Aim.{branchBy}
 use Rattle.decode.specs.declared.patch.Branch.{Branch}
 use Rattle.value.specs.Value.{Datum}
 use Rattle.value.specs.Value as Val

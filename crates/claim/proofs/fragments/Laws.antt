@@ -24,6 +24,7 @@ use Rattle.int64.specs.Order.{orderZ, isEqual}
 use Rattle.int64.specs.Order as Order
 use Rattle.int64.specs.declared.order.Cmp.the-variants.{Eq, Ne}
 use Rattle.effect.specs.Effect as M
+use Rattle.effect.specs.Forms as Forms
 use Rattle.table.specs.Tree.{Arith, bitAnd, bitOr, bitXor, lshift, rshift, add, sub, mul, div, mod′, Cmp, eq, ne, lt, le, gt, ge}
 use Rattle.eval.specs.Eval as E
 use Rattle.eval.specs.Apply as Apply
@@ -168,7 +169,7 @@ both-is k f e (is x) (is y) = e x y
 both-is k f e (is x) (fault n) = refl
 both-is k f e (fault n) b = refl
 
-arith-is : (o : Arith) (x y : Datum) → binaryOf (M.threeKind (threeOf o)) x y ≡ E.arithOf o x y
+arith-is : (o : Arith) (x y : Datum) → binaryOf (Forms.threeKind (threeOf o)) x y ≡ E.arithOf o x y
 unfolding E.arithOf
 arith-is bitAnd x y = refl
 arith-is bitOr x y = refl
@@ -181,8 +182,8 @@ arith-is mul x y = refl
 arith-is div x y = refl
 arith-is mod′ x y = refl
 
-pub three-is : (o : Arith) (a b : Result) → M.both (M.threeKind (threeOf o)) a b ≡ Apply.both (E.arithOf o) a b
-three-is o = both-is (M.threeKind (threeOf o)) (E.arithOf o) (arith-is o)
+pub three-is : (o : Arith) (a b : Result) → M.both (Forms.threeKind (threeOf o)) a b ≡ Apply.both (E.arithOf o) a b
+three-is o = both-is (Forms.threeKind (threeOf o)) (E.arithOf o) (arith-is o)
 
 -- an operand's fault is handed on
 pub both-left : (k e : ℕ) (b : Result) → M.both k (fault e) b ≡ fault e
@@ -228,8 +229,8 @@ not-equal (is x) (fault n) = refl
 not-equal (fault n) b = refl
 
 -- the branch for a comparison and a sense: not less is not less, also of a NaN and of a fault
-pub jump-is : (c : Cmp) (s : Bool) (a b : Result) → test (M.compare (branchOf c s) a b) ≡ sameT s (test (Apply.both (E.cmpOf c) a b))
-unfolding M.compare E.cmpOf
+pub jump-is : (c : Cmp) (s : Bool) (a b : Result) → test (Forms.jumpTest (branchOf c s) a b) ≡ sameT s (test (Apply.both (E.cmpOf c) a b))
+unfolding Forms.jumpTest E.cmpOf
 jump-is eq true a b = cmp-is 18 eq (λ x y. refl) true a b
 jump-is ne true a b = cmp-is 19 ne (λ x y. refl) true a b
 jump-is lt true a b = cmp-is 20 lt (λ x y. refl) true a b
@@ -246,8 +247,8 @@ jump-is le false a b = cmp-is 21 le (λ x y. refl) false a b
 jump-is gt false a b = cmp-is 22 gt (λ x y. refl) false a b
 jump-is ge false a b = cmp-is 23 ge (λ x y. refl) false a b
 
-pub sense-is : (s : Bool) (r : Result) → test (M.senseOf (cond s Sense.Yes Sense.No) r) ≡ sameT s (test r)
-unfolding M.senseOf
+pub sense-is : (s : Bool) (r : Result) → test (Forms.ifTest (cond s Sense.Yes Sense.No) r) ≡ sameT s (test r)
+unfolding Forms.ifTest
 sense-is true r = as-it-is (test r)
 sense-is false r = opposite r
 

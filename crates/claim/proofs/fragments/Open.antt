@@ -5,17 +5,17 @@ use mathlib.Core.Bool.{Bool, true, false, cond}
 use mathlib.Core.List.{List, [], _∷_, _++_, append-assoc}
 use Prim.Native.Nat.{ℕ, suc, _+_, _-_, _≤_, _<_, _^_}
 use native.Mathlib.Omega.{arith}
-use lib.IntN.{pos, negsuc}
+use lib.IntN.{ℤ, pos, negsuc}
 use lib.ListN.{length, length-append}
 use lib.Seq.{getD-at, set-at}
 use borrow.Author.Tests.{lt-ltb, le-ltb}
-use Rattle.insns.specs.declared.op.Disp.{Disp}
+use Rattle.insns.specs.Insns.{madeOf}
 use Rattle.decode.specs.declared.patch.Branch.{Branch}
-use Rattle.decode.specs.declared.patch.Branching.{Branching}
-use Rattle.decode.specs.declared.patch.Reach.{Reach}
 use Rattle.decode.specs.declared.patch.Aimed.{Aimed}
 use Rattle.decode.specs.declared.patch.Patched.{Patched}
-use Rattle.decode.specs.Patch.{difference, reachOf, branchOf, branchBy, aimWord, Patching, isDone, patchOf, patchAll}
+use Rattle.decode.specs.Patch.{difference, aimedMade, aimWord, Patching, isDone, patchOf, patchAll}
+use Rattle.decode.specs.Aim.{branchBy}
+use Rattle.decode.proofs.patch.Facts.{aim-branch}
 use Rattle.claim.proofs.fragments.Frag.{aimed}
 use Rattle.claim.proofs.fragments.Fits.{word, made, reads, far, BranchFits, branch-fits}
 
@@ -30,20 +30,11 @@ past p k =
     ap (λ (t : Bool). cond t (negsuc (suc p - suc (suc p + k))) (pos (suc p + k - suc p))) (le-ltb (suc p + k) (suc p) (omega arith))
     ∙ ap pos (omega arith)
 
-reach : (p k : ℕ) → k < far → reachOf p (suc p + k) ≡ Reach.By (record { by = pos k })
-unfolding reachOf
-reach p k h = rw (past p k, lt-ltb k (2 ^ 31) (omega arith)) refl
-
-branch-is : (b : Branch) (d : Disp) → branchOf (branchBy b d) ≡ Branching.Is b
-branch-is (Branch.If s r) d = refl
-branch-is (Branch.Jump c a q) d = refl
-branch-is (Branch.JumpImm c r z) d = refl
-branch-is Branch.Jmp d = refl
-
 aim : (b : Branch) (p k : ℕ) → BranchFits b → k < far → aimWord (word (aimed b 0)) p (suc p + k) ≡ Aimed.To (word (aimed b k))
-unfolding aimWord
 aim b p k h hk =
-    rw (reads (branch-fits b h 0 (omega arith)), reach p k hk, branch-is b (record { by = pos 0 }), made (branch-fits b h k hk)) refl
+    aim-branch (word (aimed b 0)) p (suc p + k) b (record { by = pos 0 }) (reads (branch-fits b h 0 (omega arith)))
+    ∙ ap (λ (z : ℤ). aimedMade (madeOf (branchBy b (record { by = z })))) (past p k)
+    ∙ ap aimedMade (made (branch-fits b h k hk))
 
 pub patch-one :
     (pre : List ℕ) (b : Branch) (post : List ℕ) (target p k : ℕ) → BranchFits b → length pre ≡ p → target ≡ suc p + k → k < far →

@@ -23,6 +23,8 @@ use Rattle.value.specs.Answer.{Result, is, fault, isNumber}
 use Rattle.ops.specs.Not.{negate}
 use Rattle.ops.specs.Compare.{mixed, compareNumbers, compareOthers, compareOf, same as sameDatum}
 use Rattle.effect.specs.Effect as M
+use Rattle.effect.specs.Forms as Forms
+use Rattle.effect.proofs.EffectLaws.{shift-form, arith-form, if-form, jump-form, jump-imm-form}
 use Rattle.effect.specs.Effect.{effectOf, write, branch}
 use Rattle.table.specs.Tree.{Tree, leaf, unary, binary, ternary, Leaf, nil, yep, nope, int, float, ref, Unary, minus, not′, Arith, bitAnd, bitOr, bitXor, lshift, rshift, add, sub, mul, div, mod′, Cmp, eq, ne, lt, le, gt, ge, Binary, arith, cmp, and, or, RefBelow, RefsBelow}
 use Rattle.eval.specs.Eval as E
@@ -129,15 +131,15 @@ compare-bool c (Val.float p) (Val.float q) = refl
 
 abbrev tailR : Tail → Result → Result
 tailR Tail.Not r = M.inverted r
-tailR (Tail.Imm o z) r = M.both (M.arithKind o) r (M.literal (z .n))
-tailR (Tail.Shift o k) r = M.both (M.shiftKind o) r (M.literal (pos k))
+tailR (Tail.Imm o z) r = M.both (Forms.arithKind o) r (M.literal (z .n))
+tailR (Tail.Shift o k) r = M.both (Forms.shiftKind o) r (M.literal (pos k))
 tailR (Tail.Mask lo len) r = M.both 8 r (M.mask lo len)
 tailR (Tail.ShiftMask k lo len) r = M.both 8 (M.both 12 r (M.literal (pos k))) (M.mask lo len)
 
 tail-asks : (tail : Tail) (reg slot : ℕ → Result) (d r : ℕ) → effectOf reg slot (tailOp tail d r) ≡ write d (tailR tail (reg r))
 tail-asks Tail.Not reg slot d r = refl
-tail-asks (Tail.Imm o z) reg slot d r = refl
-tail-asks (Tail.Shift o k) reg slot d r = refl
+tail-asks (Tail.Imm o z) reg slot d r = arith-form reg slot o d r z
+tail-asks (Tail.Shift o k) reg slot d r = shift-form reg slot o d r k
 tail-asks (Tail.Mask lo len) reg slot d r = refl
 tail-asks (Tail.ShiftMask k lo len) reg slot d r = refl
 
@@ -149,8 +151,7 @@ tail-strict (Tail.Shift o k) e = refl
 tail-strict (Tail.Mask lo len) e = refl
 tail-strict (Tail.ShiftMask k lo len) e = refl
 
-three-asks : (o : Arith) (reg slot : ℕ → Result) (d a b : ℕ) → effectOf reg slot (Op.Three (threeOf o) d a b) ≡ write d (M.both (M.threeKind (threeOf o)) (reg a) (reg b))
-unfolding M.threeOf
+three-asks : (o : Arith) (reg slot : ℕ → Result) (d a b : ℕ) → effectOf reg slot (Op.Three (threeOf o) d a b) ≡ write d (M.both (Forms.threeKind (threeOf o)) (reg a) (reg b))
 three-asks bitAnd reg slot d a b = refl
 three-asks bitOr reg slot d a b = refl
 three-asks bitXor reg slot d a b = refl
@@ -277,7 +278,7 @@ FoldIs (Into tail) o ea e₁ eb = Apply.both (E.arithOf o) ea eb ≡ tailR tail 
 FoldIs General o ea e₁ eb = Unit {0}
 
 -- the operator with a literal, as the machine has it
-with-literal : (o : Arith) (z : ℤ) (ea eb : Result) → eb ≡ is (Val.int z) → Apply.both (E.arithOf o) ea eb ≡ M.both (M.threeKind (threeOf o)) ea (M.literal z)
+with-literal : (o : Arith) (z : ℤ) (ea eb : Result) → eb ≡ is (Val.int z) → Apply.both (E.arithOf o) ea eb ≡ M.both (Forms.threeKind (threeOf o)) ea (M.literal z)
 with-literal o z ea eb h = ap (Apply.both (E.arithOf o) ea) h ∙ sym (three-is o ea (is (Val.int z)))
 
 mask-fold :
@@ -292,12 +293,12 @@ mask-fold (By k) z (Ones lo len) ea e₁ eb hs h w =
     ∙ ap (λ (x : Result). M.both 8 x (M.mask lo len)) (hs ∙ sym (three-is rshift e₁ (is (Val.int (pos k)))))
 
 shift-fold :
-    (k : Shift) (o : Arith) (s : Amount) (ea e₁ eb : Result) → M.shiftKind k ≡ M.threeKind (threeOf o) → AmountIs s eb → FoldIs (shiftFold k s) o ea e₁ eb
+    (k : Shift) (o : Arith) (s : Amount) (ea e₁ eb : Result) → Forms.shiftKind k ≡ Forms.threeKind (threeOf o) → AmountIs s eb → FoldIs (shiftFold k s) o ea e₁ eb
 shift-fold k o NoShift ea e₁ eb e h = tt
 shift-fold k o (By n) ea e₁ eb e h = with-literal o (pos n) ea eb h ∙ ap (λ (m : ℕ). M.both m ea (M.literal (pos n))) (sym e)
 
 imm-fold :
-    (k : ImmArith) (o : Arith) (i : Imm) (ea e₁ eb : Result) → M.arithKind k ≡ M.threeKind (threeOf o) → ImmIs i eb → FoldIs (immFold k i) o ea e₁ eb
+    (k : ImmArith) (o : Arith) (i : Imm) (ea e₁ eb : Result) → Forms.arithKind k ≡ Forms.threeKind (threeOf o) → ImmIs i eb → FoldIs (immFold k i) o ea e₁ eb
 imm-fold k o NoImm ea e₁ eb e h = tt
 imm-fold k o (Imm16 z) ea e₁ eb e h = with-literal o (z .n) ea eb h ∙ ap (λ (m : ℕ). M.both m ea (M.literal (z .n))) (sym e)
 
@@ -389,7 +390,7 @@ module _ (C : List ℕ) (W ls : List Datum) (b : ℕ) where
       let A = v Any n ks in
       let va = sa Any n ks up tt in
       let B = w Any (A .next) (ks ++ A .consts) in
-      let k = M.threeKind (threeOf o) in
+      let k = Forms.threeKind (threeOf o) in
       Sound.bin-sound C W ls b n ks A B ea eb dst (λ d. Op.Three (threeOf o) d (A .reg) (B .reg)) (M.both k) up low va
       (sb Any (A .next) (ks ++ A .consts) (omega (linear, va .more)) tt) (λ reg slot d. three-asks o reg slot d (A .reg) (B .reg)) (both-left k) (both-right k))
 
@@ -413,8 +414,8 @@ module _ (C : List ℕ) (W ls : List Datum) (b : ℕ) where
       ((n : ℕ) → t (fault n) ≡ wrong n) → Values v e → Branches (λ sense. unaryTestF v (immOn (branchOf c sense) z)) (t e)
   imm-branches c z v e t h strict s sense n ks up =
       let A = v Any n ks in
-      Sound.un-leap C W ls b sense n ks A e (immOn (branchOf c sense) z (A .reg)) (λ r. M.compare (branchOf c sense) r (M.literal (z .n))) t (s Any n ks up tt)
-      (λ reg slot j. refl) (λ x. jump-is c sense (is x) (is (Val.int (z .n))) ∙ ap (sameT sense) (h x)) strict
+      Sound.un-leap C W ls b sense n ks A e (immOn (branchOf c sense) z (A .reg)) (λ r. Forms.jumpTest (branchOf c sense) r (M.literal (z .n))) t (s Any n ks up tt)
+      (λ reg slot j. jump-imm-form reg slot (branchOf c sense) (A .reg) z (record { by = pos j })) (λ x. jump-is c sense (is x) (is (Val.int (z .n))) ∙ ap (sameT sense) (h x)) strict
 
   pair-branches :
       (c : Cmp) (v w : ValueF) (ea eb : Result) → Values v ea → Values w eb →
@@ -423,9 +424,9 @@ module _ (C : List ℕ) (W ls : List Datum) (b : ℕ) where
       let A = v Any n ks in
       let va = sa Any n ks up tt in
       let B = w Any (A .next) (ks ++ A .consts) in
-      Sound.bin-leap C W ls b sense n ks A B ea eb (pairOn (branchOf c sense) (A .reg) (B .reg)) (M.compare (branchOf c sense))
-      (λ x y. test (Apply.both (E.cmpOf c) x y)) up va (sb Any (A .next) (ks ++ A .consts) (omega (linear, va .more)) tt) (λ reg slot j. refl)
-      (λ x y. jump-is c sense (is x) (is y)) (cmp-left c) (cmp-right c)
+      Sound.bin-leap C W ls b sense n ks A B ea eb (pairOn (branchOf c sense) (A .reg) (B .reg)) (Forms.jumpTest (branchOf c sense))
+      (λ x y. test (Apply.both (E.cmpOf c) x y)) up va (sb Any (A .next) (ks ++ A .consts) (omega (linear, va .more)) tt)
+      (λ reg slot j. jump-form reg slot (branchOf c sense) (A .reg) (B .reg) (record { by = pos j })) (λ x y. jump-is c sense (is x) (is y)) (cmp-left c) (cmp-right c)
 
   compare-branches :
       (c : Cmp) (l r : Imm) (v w : ValueF) (ea eb : Result) → ImmIs l ea → ImmIs r eb → Values v ea → Values w eb →
@@ -497,8 +498,8 @@ module _ (C : List ℕ) (W ls : List Datum) (b : ℕ) where
         branches =
             λ sense n ks up.
             let A = v Any n ks in
-            Sound.un-leap C W ls b sense n ks A e (testOn sense (A .reg)) (M.senseOf (cond sense Sense.Yes Sense.No)) test (s Any n ks up tt)
-            (λ reg slot j. refl) (λ x. sense-is sense (is x)) (λ m. refl);
+            Sound.un-leap C W ls b sense n ks A e (testOn sense (A .reg)) (Forms.ifTest (cond sense Sense.Yes Sense.No)) test (s Any n ks up tt)
+            (λ reg slot j. if-form reg slot (cond sense Sense.Yes Sense.No) (A .reg) (record { by = pos j })) (λ x. sense-is sense (is x)) (λ m. refl);
         firsts = s₁;
       }
 

@@ -11,7 +11,7 @@ use Rattle.insns.specs.declared.op.Op.{Op}
 use Rattle.decode.specs.Decode.{decodeOf}
 use Rattle.value.specs.Value.{Datum}
 use Rattle.value.specs.Answer.{Result, is, fault}
-use Rattle.machine.specs.Step.{go, put}
+use Rattle.machine.specs.Step.{go, put, wordEffect}
 use Rattle.machine.specs.Run.{ran}
 use Rattle.machine.specs.Datums.{valueAt, nextOf, end, valuesFrom}
 use Rattle.machine.specs.declared.run.Ran.{Ran}
@@ -45,7 +45,7 @@ at-self F h = subst (λ (q : ℕ). At (wordsOf F) 0 F q) (words-length F) (at-af
 -- ---- paths are runs
 
 next-is : (C : List ℕ) (K rs : List Datum) (p : ℕ) (i : Op) → Stands C p i → nextOf C K p rs ≡ step K (length C) p rs i
-unfolding nextOf
+unfolding nextOf wordEffect
 next-is C K rs p i h = rw (h .reads) refl
 
 run-walk :

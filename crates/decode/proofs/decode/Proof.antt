@@ -1,10 +1,9 @@
--- `decode` meets its contract: each arm knows the form of the opcode, and hands on what the cutting of its fields ensures. Assumes nothing.
-use mathlib.Core.Path.{refl}
+-- `decode` meets its contract: each arm knows the form of the opcode, and hands on what the cutting of its fields ensures.
 use native.Mathlib.Omega.{arith}
 use mir.Syntax.{w16, w32, w64}
 use Rattle.insns.proofs.bits.Sign.{back}
 use Rattle.decode.proofs.Sign.{narrows, narrowed}
-use Rattle.decode.proofs.Table.{arm}
+use Rattle.decode.proofs.Table.{arm, no-form}
 use borrow.Author.Needs.{needs}
 use Rattle.decode.proofs.decode.Statement.{statement}
 use Rattle.decode.proofs.decode.Tie as tie
@@ -108,4 +107,4 @@ decode-spec =
     (λ c. arm (c .before .before .before .before .before .args .w) (c .before .before .before .before .form .ensures) (c .before .before .k13 .given .1) (c .by-id-of .ensures))
     (λ c. arm (c .before .before .before .before .args .w) (c .before .before .before .form .ensures) (c .before .enum-told9 .given .1) (c .call-method-host-of .ensures))
     (λ c. arm (c .before .before .before .before .before .before .args .w) (c .before .before .before .before .before .form .ensures) (c .before .before .before .enum-told10 .given .1) (rw (c .before .if-whole8 .ensures, back w64 (c .before .before .signed-of8 .result) (c .before .before .signed-of8 .ok), c .before .before .signed-of8 .ensures) at (c .if-raw2 .ensures)))
-    (λ c. arm (c .before .before .before .args .w) (c .before .before .form .ensures) (c .enum-told11 .given .1) (refl)))
+    (λ c. arm (c .before .before .before .args .w) (c .before .before .form .ensures) (c .enum-told11 .given .1) (no-form _)))

@@ -1,4 +1,4 @@
--- What the last arm of a `match` knows. Assumes nothing.
+-- What the last arm of a `match` knows.
 use mathlib.Core.Path.{_≡_}
 use Prim.Native.Nat.{ℕ, zero, suc, _≤_, zero-le}
 use native.Mathlib.Omega.{arith}

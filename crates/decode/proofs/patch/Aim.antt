@@ -1,4 +1,4 @@
--- Displacements, and words patched: one of a list, and one after the other. Assumes nothing.
+-- Displacements, and words patched: one of a list, and one after the other.
 use mathlib.Core.Path.{_≡_, refl, sym, ap, _∙_}
 use mathlib.Core.Bool.{Bool, true, false, not, cond}
 use mathlib.Core.List.{List, [], _∷_}
@@ -16,7 +16,8 @@ use mir.Val.{SFits, toZ, ofZ}
 use mir.Facts.{toZ-ofZ}
 use mir.ValLaws.{toZ-pos}
 use Rattle.insns.proofs.bits.Sign.{back}
-use Rattle.decode.specs.Patch.{difference, reachOf, aimWord, Patching, putAimed, patchOf, patchAll, isDone}
+use Rattle.decode.specs.Patch.{difference, aimWord, Patching, putAimed, patchOf, patchAll, isDone}
+use Rattle.decode.specs.Aim.{reachOf}
 use Rattle.decode.specs.declared.patch.Reach.{Reach}
 use Rattle.decode.specs.declared.patch.Aimed.{Aimed}
 use Rattle.decode.specs.declared.patch.Patched.{Patched}

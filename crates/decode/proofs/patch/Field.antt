@@ -1,5 +1,5 @@
 -- A word aimed as a number is what the definition says. The word of a branch is the number of its opcode and its other operands, and above it the
--- displacement's field: made of the same branch with another displacement, only the field changes. Assumes nothing.
+-- displacement's field: made of the same branch with another displacement, only the field changes.
 use mathlib.Core.Path.{_≡_, refl, sym, ap, subst, _∙_}
 use mathlib.Core.Bool.{Bool, true, false, _&&_, and-true, and-assoc, cond}
 use mathlib.Core.List.{List, [], _∷_, _++_}
@@ -17,24 +17,25 @@ use mir.Syntax.{w32, w64}
 use mir.Val.{Fits, SFits, toZ, ofZ}
 use Rattle.insns.specs.Fields.{Field, u, s, pack, allFit, make, wordIf}
 use Rattle.insns.specs.Bits.{twos}
-use Rattle.insns.specs.Insns.{forms, formAt, opOf, formOf, fieldsOf, madeOf, ifOp, jumpOp, jumpImmOp}
+use Rattle.insns.specs.Insns.{forms, formAt, formOf, fieldsOf, madeOf}
+use Rattle.insns.specs.Opcodes.{opOf, ifOp, jumpOp, jumpImmOp}
 use Rattle.insns.specs.declared.Made.{Made}
 use Rattle.insns.specs.declared.op.Cmp.{Cmp}
 use Rattle.insns.specs.declared.op.Disp.{Disp}
+use Rattle.insns.specs.declared.op.Imm16.{Imm16}
 use Rattle.insns.specs.declared.op.Form.{Form}
 use Rattle.insns.specs.declared.op.Op.{Op}
 use Rattle.insns.specs.declared.op.Sense.{Sense}
 use Rattle.insns.proofs.Packing.{join-lt}
-use Rattle.insns.proofs.bits.Sign.{widened}
+use Rattle.insns.proofs.bits.Sign.{widened, twos-far}
 use Rattle.insns.proofs.Table.{and-true as both-true, form-op}
-use Rattle.decode.specs.Decode.{decodeOf, decodeAs, dispIn, imm16, whole}
+use Rattle.decode.specs.Decode.{signed, decodeOf, decodeAs, whole}
 use Rattle.decode.specs.declared.Decoded.{Decoded}
 use Rattle.decode.proofs.RoundTrip.{head-fits, made-fits, made-decode}
-use Rattle.decode.specs.Field.{Place, aimField, unaimed}
-use Rattle.decode.specs.Patch.{difference, reachOf, branchOf, branchBy, aimedMade, aimedReach, aimedBranching, aimedDecoded, aimWord}
+use Rattle.decode.specs.Patch.{difference, isBranch, madeWith, aimedMade, aimedDecoded, aimWord}
+use Rattle.decode.specs.Aim.{reachOf, unreached, aimedBy, unaimed, Place, aimField, branchBy}
 use Rattle.decode.specs.declared.patch.Aimed.{Aimed}
 use Rattle.decode.specs.declared.patch.Branch.{Branch}
-use Rattle.decode.specs.declared.patch.Branching.{Branching}
 use Rattle.decode.specs.declared.patch.Reach.{Reach}
 use Rattle.decode.proofs.patch.Facts.{branch-by}
 
@@ -60,15 +61,15 @@ module _ (low place half : ℕ) {r : Reach} where
     number : n ≡ twos half (disp .by)
     number = k ∙ ap (twos half) (widened tt f)
 
-    pub held : n < 2 * half → Aimed.To (low + place * n) ≡ aimField low place half r
+    pub in-field : n < 2 * half → Aimed.To (low + place * n) ≡ aimField low place half r
     unfolding aimField
-    held h = rw (e, ← number, lt-ltb n (2 * half) h)
+    in-field h = rw (e, ← number, lt-ltb n (2 * half) h)
 
-    pub not-held : 2 * half ≤ n → Aimed.TooFar ≡ aimField low place half r
+    pub past-field : 2 * half ≤ n → Aimed.TooFar ≡ aimField low place half r
     unfolding aimField
-    not-held h = rw (e, ← number, le-ltb n (2 * half) h)
+    past-field h = rw (e, ← number, le-ltb n (2 * half) h)
 
-pub ruleset numbers = (none, held, not-held)
+pub ruleset numbers = (none, in-field, past-field)
 
 -- ---- a field above others
 
@@ -132,8 +133,20 @@ opcode-lt Branch.Jmp = omega arith
 joined : (b : Branch) (v : ℕ) → opcode b + 256 * (pack (lows b) + sizes (lows b) * v) ≡ low b + place b * v
 joined b v = rw (mul-add 256 (pack (lows b)) (sizes (lows b) * v), mul-assoc 256 (sizes (lows b)) v, add-assoc (opcode b) (256 * pack (lows b)) (256 * (sizes (lows b) * v)))
 
+-- the branch aimed by a displacement, or one that is too far
+abbrev aimedReach : Branch → Reach → Aimed
+aimedReach b (Reach.By disp) = aimedMade (madeOf (branchBy b disp))
+aimedReach b Reach.Far = Aimed.TooFar
+
+reach-by : (b : Branch) (disp : Disp) (r : Reach) → aimedBy (Decoded.Is (branchBy b disp)) r ≡ aimedReach b r
+reach-by b disp (Reach.By to) = branch-by b disp (to .by)
+reach-by (Branch.If k val) disp Reach.Far = refl
+reach-by (Branch.Jump k a c) disp Reach.Far = refl
+reach-by (Branch.JumpImm k a imm) disp Reach.Far = refl
+reach-by Branch.Jmp disp Reach.Far = refl
+
 module _ (b : Branch) (fit : allFit (lows b) ≡ true) where
-  -- the branch aimed: what its field does not hold, `make` refuses
+  -- what its field does not hold, `make` refuses
   aimed : (r : Reach) → aimField (low b) (place b) (half b) r ≡ aimedReach b r
   unfolding aimField wordIf
   aimed (Reach.By disp) =
@@ -159,8 +172,8 @@ module _ (w : ℕ) (b : Branch) (disp : Disp) (e : decodeOf w ≡ Decoded.Is (br
       let k : w ≡ low b + place b * v = all .1 ∙ ap (λ (x : ℕ). opcode b + 256 * x) (pack-end (lows b) (2 * half b) v) ∙ joined b v in
       ap (λ (x : ℕ). x % place b) k ∙ add-mul-mod-self-left (low b) (place b) v ∙ mod-eq-of-lt (join-lt 256 (sizes (lows b)) (opcode-lt b) (pack-lt (lows b) lows-fit))
 
-  known : (r : Reach) → aimField (w % place b) (place b) (half b) r ≡ aimedDecoded (decodeOf w) r
-  known r = ap (λ (x : ℕ). aimField x (place b) (half b) r) low-is ∙ aimed b lows-fit r ∙ sym (ap (λ (d : Decoded). aimedDecoded d r) e ∙ ap (λ (x : Branching). aimedBranching x r) (branch-by b disp))
+  known : (r : Reach) → aimField (w % place b) (place b) (half b) r ≡ aimedBy (decodeOf w) r
+  known r = ap (λ (x : ℕ). aimField x (place b) (half b) r) low-is ∙ aimed b lows-fit r ∙ sym (ap (λ (d : Decoded). aimedBy d r) e ∙ reach-by b disp r)
 
 -- ---- the opcodes of the branches, from if_true to jmp
 
@@ -197,16 +210,27 @@ jump-form op l h =
     rw (← e, ← getD-drop 45 forms (op - 45) Form.Unknown, ← getD-take 20 (drop 45 forms) (op - 45) Form.Unknown j) (all-compare (take 20 (drop 45 forms)) (op - 45) (search compares) j)
 
 -- nothing above the fields, or something
-whole-is : (rest : ℕ) (i : Op) → rest ≡ 0 → whole rest i ≡ Decoded.Is i
+whole-is : (rest : ℕ) (i : Op) → rest ≡ 0 → whole rest (Decoded.Is i) ≡ Decoded.Is i
 unfolding whole
 whole-is rest i e = ap (λ (b : Bool). cond b (Decoded.Is i) Decoded.Bad) (eq-eqb rest 0 e)
 
-whole-not : (rest : ℕ) (i : Op) → (rest ≡ 0 → ⊥) → whole rest i ≡ Decoded.Bad
+whole-not : (rest : ℕ) (i : Op) → (rest ≡ 0 → ⊥) → whole rest (Decoded.Is i) ≡ Decoded.Bad
 unfolding whole
 whole-not rest i e = ap (λ (b : Bool). cond b (Decoded.Is i) Decoded.Bad) (ne-eqb rest 0 e)
 
-bad : (w : ℕ) (r : Reach) → decodeOf w ≡ Decoded.Bad → Aimed.Undecoded ≡ aimedDecoded (decodeOf w) r
-bad w r e = ap (λ (d : Decoded). aimedDecoded d r) (sym e)
+undecoded : (r : Reach) → Aimed.Undecoded ≡ aimedBy Decoded.Bad r
+undecoded (Reach.By disp) = refl
+undecoded Reach.Far = refl
+
+bad : (w : ℕ) (r : Reach) → decodeOf w ≡ Decoded.Bad → Aimed.Undecoded ≡ aimedBy (decodeOf w) r
+bad w r e = undecoded r ∙ ap (λ (d : Decoded). aimedBy d r) (sym e)
+
+-- the operands of a branch, as they are read
+abbrev imm16 : ℕ → Imm16
+imm16 n = record { n = signed 32768 n }
+
+abbrev dispIn : ℕ → ℕ → Disp
+dispIn h n = record { by = signed h n }
 
 -- a word of a branch's opcode: it is the branch where nothing stands above its fields
 if-is : (w : ℕ) (k : Sense) → formAt (w % 256) ≡ Form.If k → w / 16777216 < 4294967296 → decodeOf w ≡ Decoded.Is (branchBy (Branch.If k (w / 256 % 65536)) (dispIn 2147483648 (w / 256 / 65536 % 4294967296)))
@@ -218,31 +242,81 @@ if-bad w k f h = as-form w (Form.If k) f ∙ whole-not (w / 256 / 65536 / 429496
 -- ---- a word of each opcode, aimed
 
 module _ (w : ℕ) (r : Reach) where
-  pub if-aimed : 43 ≤ w % 256 → w % 256 ≤ 44 → w / 16777216 < 4294967296 → {a : Aimed} → a ≡ aimField (w % 16777216) 16777216 2147483648 r → a ≡ aimedDecoded (decodeOf w) r
+  pub if-aimed : 43 ≤ w % 256 → w % 256 ≤ 44 → w / 16777216 < 4294967296 → {a : Aimed} → a ≡ aimField (w % 16777216) 16777216 2147483648 r → a ≡ aimedBy (decodeOf w) r
   if-aimed l h n q = q ∙ ⊎-elim (λ f. known w (Branch.If Sense.Yes _) _ (if-is w Sense.Yes f n) r) (λ f. known w (Branch.If Sense.No _) _ (if-is w Sense.No f n) r) (if-form (w % 256) l h)
 
-  pub if-stray : 43 ≤ w % 256 → w % 256 ≤ 44 → 4294967296 ≤ w / 16777216 → Aimed.Undecoded ≡ aimedDecoded (decodeOf w) r
+  pub if-stray : 43 ≤ w % 256 → w % 256 ≤ 44 → 4294967296 ≤ w / 16777216 → Aimed.Undecoded ≡ aimedBy (decodeOf w) r
   if-stray l h n = ⊎-elim (λ f. bad w r (if-bad w Sense.Yes f n)) (λ f. bad w r (if-bad w Sense.No f n)) (if-form (w % 256) l h)
 
-  compared : w < 18446744073709551616 → {f : Form} → formAt (w % 256) ≡ f → Compares f → aimField (w % 1099511627776) 1099511627776 8388608 r ≡ aimedDecoded (decodeOf w) r
+  compared : w < 18446744073709551616 → {f : Form} → formAt (w % 256) ≡ f → Compares f → aimField (w % 1099511627776) 1099511627776 8388608 r ≡ aimedBy (decodeOf w) r
   compared n e (two k) = known w (Branch.Jump k (w / 256 % 65536) (w / 256 / 65536 % 65536)) (dispIn 8388608 (w / 256 / 65536 / 65536 % 16777216)) (as-form w (Form.Jump k) e ∙ whole-is (w / 256 / 65536 / 65536 / 16777216) _ (omega arith)) r
   compared n e (one k) = known w (Branch.JumpImm k (w / 256 % 65536) (imm16 (w / 256 / 65536 % 65536))) (dispIn 8388608 (w / 256 / 65536 / 65536 % 16777216)) (as-form w (Form.JumpImm k) e ∙ whole-is (w / 256 / 65536 / 65536 / 16777216) _ (omega arith)) r
 
-  pub jump-aimed : 44 < w % 256 → w % 256 ≤ 64 → w < 18446744073709551616 → {a : Aimed} → a ≡ aimField (w % 1099511627776) 1099511627776 8388608 r → a ≡ aimedDecoded (decodeOf w) r
+  pub jump-aimed : 44 < w % 256 → w % 256 ≤ 64 → w < 18446744073709551616 → {a : Aimed} → a ≡ aimField (w % 1099511627776) 1099511627776 8388608 r → a ≡ aimedBy (decodeOf w) r
   jump-aimed l h n q = q ∙ compared n refl (jump-form (w % 256) l h)
 
   jmp-form : 64 < w % 256 → w % 256 ≤ 65 → formAt (w % 256) ≡ Form.Jmp
   jmp-form l h = ap formAt (let q : w % 256 ≡ 65 = omega arith in q)
 
-  pub jmp-aimed : 64 < w % 256 → w % 256 ≤ 65 → w / 256 < 4294967296 → {a : Aimed} → a ≡ aimField (w % 256) 256 2147483648 r → a ≡ aimedDecoded (decodeOf w) r
+  pub jmp-aimed : 64 < w % 256 → w % 256 ≤ 65 → w / 256 < 4294967296 → {a : Aimed} → a ≡ aimField (w % 256) 256 2147483648 r → a ≡ aimedBy (decodeOf w) r
   jmp-aimed l h n q = q ∙ known w Branch.Jmp (dispIn 2147483648 (w / 256 % 4294967296)) (as-form w Form.Jmp (jmp-form l h) ∙ whole-is (w / 256 / 4294967296) _ (omega arith)) r
 
-  pub jmp-stray : 64 < w % 256 → w % 256 ≤ 65 → 4294967296 ≤ w / 256 → Aimed.Undecoded ≡ aimedDecoded (decodeOf w) r
+  pub jmp-stray : 64 < w % 256 → w % 256 ≤ 65 → 4294967296 ≤ w / 256 → Aimed.Undecoded ≡ aimedBy (decodeOf w) r
   jmp-stray l h n = bad w r (as-form w Form.Jmp (jmp-form l h) ∙ whole-not (w / 256 / 4294967296) _ (λ e. omega arith))
 
-pub aimed-is : (w at t : ℕ) {r : Reach} {a : Aimed} → r ≡ reachOf at t → a ≡ aimedDecoded (decodeOf w) r → a ≡ aimWord w at t
+-- ---- too far for 32 bits, too far for every branch
+
+and-false : (b : Bool) → (b && false) ≡ false
+and-false true = refl
+and-false false = refl
+
+too-far : (op : ℕ) (fs : List Field) (h : ℕ) (z : ℤ) → h ≤ mag z → Aimed.TooFar ≡ aimedMade (make op (fs ++ ((2 * h, twos h z) ∷ [])))
+unfolding wordIf
+too-far op fs h z l =
+    let n : ltb (twos h z) (2 * h) ≡ false = ap (λ (v : ℕ). ltb v (2 * h)) (twos-far h z l) ∙ le-ltb (2 * h) (2 * h) (omega arith) in
+    let f : allFit (fs ++ ((2 * h, twos h z) ∷ [])) ≡ false = fit-end fs (2 * h) (twos h z) ∙ ap (λ (b : Bool). allFit fs && b) n ∙ and-false (allFit fs) in
+    sym (ap (λ (b : Bool). aimedMade (cond b (Made.Fits (record { bits = op + 256 * pack (fs ++ ((2 * h, twos h z) ∷ [])) })) Made.Refused)) f)
+
+far : (i : Op) (z : ℤ) → 2147483648 ≤ mag z → unreached (Decoded.Is i) ≡ aimedDecoded (Decoded.Is i) z
+far (Op.Bare k) z l = refl
+far (Op.LoadImm40 dst imm) z l = refl
+far (Op.Two k dst src) z l = refl
+far (Op.Slot k dst slot) z l = refl
+far (Op.Three k dst a b) z l = refl
+far (Op.Shift k dst a shift) z l = refl
+far (Op.BitAndMask dst a lo len) z l = refl
+far (Op.RshiftMask dst a shift lo len) z l = refl
+far (Op.Arith k dst a imm) z l = refl
+far (Op.ClosNew dst fun num) z l = refl
+far (Op.ClosSet clos src idx) z l = refl
+far (Op.ClosGet dst idx) z l = refl
+far (Op.One k dst) z l = refl
+far (Op.Wide k dst val class) z l = refl
+far (Op.If k val disp) z l = too-far (ifOp k) (u 16 val ∷ []) 2147483648 z l
+far (Op.Jump k a b disp) z l = too-far (jumpOp k) (u 16 a ∷ u 16 b ∷ []) 8388608 z (omega arith)
+far (Op.JumpImm k a imm disp) z l = too-far (jumpImmOp k) (u 16 a ∷ s 16 (imm .n) ∷ []) 8388608 z (omega arith)
+far (Op.Jmp disp) z l = too-far 65 [] 2147483648 z l
+far (Op.Call k start argc cache) z l = refl
+far (Op.CallHost host start argc) z l = refl
+far (Op.ById k fun start argc) z l = refl
+far (Op.CallMethodHost start argc tag cache) z l = refl
+far (Op.RetImm40 imm) z l = refl
+
+far-all : (d : Decoded) (z : ℤ) → 2147483648 ≤ mag z → unreached d ≡ aimedDecoded d z
+far-all (Decoded.Is i) z l = far i z l
+far-all Decoded.Bad z l = refl
+
+reached : (d : Decoded) (at t : ℕ) → aimedBy d (reachOf at t) ≡ aimedDecoded d (difference at t)
+unfolding reachOf
+reached d at t = go (ltb (mag (difference at t)) 2147483648) refl
+  where
+    go : (b : Bool) → ltb (mag (difference at t)) 2147483648 ≡ b → aimedBy d (cond b (Reach.By (record { by = difference at t })) Reach.Far) ≡ aimedDecoded d (difference at t)
+    go true e = refl
+    go false e = far-all d (difference at t) (ltb-false _ _ e)
+
+pub aimed-is : (w at t : ℕ) {r : Reach} {a : Aimed} → r ≡ reachOf at t → a ≡ aimedBy (decodeOf w) r → a ≡ aimWord w at t
 unfolding aimWord
-aimed-is w at t e q = rw e at q
+aimed-is w at t e q = q ∙ ap (aimedBy (decodeOf w)) e ∙ reached (decodeOf w) at t
 
 -- ---- any other opcode
 
@@ -272,7 +346,7 @@ cmp-among Cmp.Nle = ((omega arith, omega arith), (omega arith, omega arith))
 cmp-among Cmp.Ngt = ((omega arith, omega arith), (omega arith, omega arith))
 cmp-among Cmp.Nge = ((omega arith, omega arith), (omega arith, omega arith))
 
-no-branch : (i : Op) → (Among (opOf (formOf i)) → ⊥) → branchOf i ≡ Branching.No
+no-branch : (i : Op) → (Among (opOf (formOf i)) → ⊥) → isBranch i ≡ false
 no-branch (Op.Bare k) n = refl
 no-branch (Op.LoadImm40 dst imm) n = refl
 no-branch (Op.Two k dst src) n = refl
@@ -311,8 +385,9 @@ other : (w at t : ℕ) → (Among (w % 256) → ⊥) → unaimed (decodeOf w) �
 unfolding aimWord
 other w at t n = go (decodeOf w) refl
   where
-    go : (d : Decoded) → decodeOf w ≡ d → unaimed d ≡ aimedDecoded d (reachOf at t)
-    go (Decoded.Is i) e = sym (ap (λ (b : Branching). aimedBranching b (reachOf at t)) (no-branch i (subst (λ (op : ℕ). Among op → ⊥) (opcode-is w i e) n)))
+    go : (d : Decoded) → decodeOf w ≡ d → unaimed d ≡ aimedDecoded d (difference at t)
+    go (Decoded.Is i) e =
+        sym (ap (λ (b : Bool). cond b (aimedMade (madeWith i (difference at t))) Aimed.NotBranch) (no-branch i (subst (λ (op : ℕ). Among op → ⊥) (opcode-is w i e) n)))
     go Decoded.Bad e = refl
 
 module _ (w at t : ℕ) {r : Aimed} (q : r ≡ unaimed (decodeOf w)) where

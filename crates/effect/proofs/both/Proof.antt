@@ -1,4 +1,4 @@
--- `both` meets its contract: the first fault counts. Assumes nothing.
+-- `both` meets its contract: the first fault counts.
 use borrow.Author.Needs.{needs}
 use Rattle.effect.proofs.EffectLaws.{effects}
 use Rattle.effect.proofs.both.Statement.{statement}

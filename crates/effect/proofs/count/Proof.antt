@@ -1,4 +1,4 @@
--- `count` meets its contract: a byte is a non-negative number. Assumes nothing.
+-- `count` meets its contract: a byte is a non-negative number.
 use borrow.Author.Needs.{needs}
 use mir.ValLaws.{toZ-pos}
 use mir.Syntax.{w64}

@@ -1,4 +1,4 @@
--- `inverted` meets its contract: by definition. Assumes nothing.
+-- `inverted` meets its contract: by definition.
 use borrow.Author.Needs.{needs}
 use Rattle.effect.specs.Effect.{inverted}
 use Rattle.effect.proofs.inverted.Statement.{statement}

@@ -1,4 +1,4 @@
--- `literal16` meets its contract: the literal is widened. Assumes nothing.
+-- `literal16` meets its contract: the literal is widened.
 use borrow.Author.Needs.{needs}
 use Rattle.effect.proofs.EffectLaws.{widens16, literal-wide}
 use Rattle.effect.proofs.literal16.Statement.{statement}

@@ -1,4 +1,4 @@
--- `mask` meets its contract: the mask as two's complement. Assumes nothing.
+-- `mask` meets its contract: the mask as two's complement.
 use borrow.Author.Needs.{needs}
 use mir.Syntax.{w64}
 use Rattle.effect.proofs.EffectLaws.{back}

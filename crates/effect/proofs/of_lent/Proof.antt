@@ -1,4 +1,4 @@
--- `of_lent` meets its contract: by the variant. Assumes nothing.
+-- `of_lent` meets its contract: by the variant.
 use borrow.Author.Needs.{needs}
 use Rattle.effect.proofs.of_lent.Statement.{statement}
 use Rattle.effect.proofs.of_lent.Tie as tie

@@ -1,4 +1,4 @@
--- `raw` meets its contract: by the tests on the bits. Assumes nothing.
+-- `raw` meets its contract: by the tests on the bits.
 use borrow.Author.Needs.{needs}
 use Rattle.effect.proofs.EffectLaws.{effects}
 use Rattle.effect.proofs.raw.Statement.{statement}

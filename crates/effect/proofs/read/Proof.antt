@@ -1,4 +1,4 @@
--- `read` meets its contract: past the end, or the pair. Assumes nothing.
+-- `read` meets its contract: past the end, or the pair.
 use borrow.Author.Needs.{needs}
 use Rattle.effect.proofs.EffectLaws.{effects}
 use Rattle.effect.proofs.read.Statement.{statement}

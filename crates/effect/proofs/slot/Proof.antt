@@ -1,4 +1,4 @@
--- `slot` meets its contract: by the opcode. Assumes nothing.
+-- `slot` meets its contract: by the opcode.
 use borrow.Author.Needs.{needs}
 use Rattle.effect.proofs.slot.Statement.{statement}
 use Rattle.effect.proofs.slot.Tie as tie
@@ -12,7 +12,7 @@ slot-spec =
     (λ c. search needs)
     (λ c. search needs)
     (λ c. search needs)
-    (λ c. cc)
-    (λ c. cc)
-    (λ c. cc)
-    (λ c. cc))
+    (λ c reg. cc)
+    (λ c reg. cc)
+    (λ c reg. cc)
+    (λ c reg. cc))

@@ -1,4 +1,4 @@
--- `two` meets its contract: by the opcode. Assumes nothing.
+-- `two` meets its contract: by the opcode.
 use borrow.Author.Needs.{needs}
 use Rattle.effect.proofs.two.Statement.{statement}
 use Rattle.effect.proofs.two.Tie as tie
@@ -17,10 +17,10 @@ two-spec =
     (λ c. search needs)
     (λ c. search needs)
     (λ c. search needs)
-    (λ c. cc)
-    (λ c. cc)
-    (λ c. cc)
-    (λ c. cc)
-    (λ c. cc)
-    (λ c. cc)
-    (λ c. cc))
+    (λ c slot. cc)
+    (λ c slot. cc)
+    (λ c slot. cc)
+    (λ c slot. cc)
+    (λ c slot. cc)
+    (λ c slot. cc)
+    (λ c slot. cc))

@@ -9,7 +9,8 @@ use mir.Val.{SFits, toZ, ofZ}
 use Rattle.insns.proofs.bits.Sign.{widens, widened}
 use Rattle.insns.specs.Fields.{make, u, raw, rawBits}
 use Rattle.insns.specs.Bits.{twos}
-use Rattle.insns.specs.Insns.{madeOf, arithOp, jumpOp, jumpImmOp}
+use Rattle.insns.specs.Insns.{madeOf}
+use Rattle.insns.specs.Opcodes.{arithOp, jumpOp, jumpImmOp}
 use Rattle.insns.specs.declared.Made.{Made}
 use Rattle.insns.specs.declared.op.Arith.{Arith}
 use Rattle.insns.specs.declared.op.Cmp.{Cmp}

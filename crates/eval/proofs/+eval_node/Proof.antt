@@ -1,4 +1,4 @@
--- The proof of the cycle of calls {eval_node}: the measure is the node's depth, and `search` answers each need by the laws. Assumes nothing.
+-- The proof of the cycle of calls {eval_node}: the measure is the node's depth, and `search` answers each need by the laws.
 use Prim.Native.Nat.{ℕ, _<_}
 use borrow.Author.Needs.{needs}
 use borrow.Fn.Kinds.{In}

@@ -1,4 +1,4 @@
--- Tests, operators and leaves, over plain values. Assumes nothing.
+-- Tests, operators and leaves, over plain values.
 use mathlib.Core.Path.{_≡_, refl, sym, _∙_, ap}
 use mathlib.Core.Bool.{true, false, cond}
 use mathlib.Core.List.{List}
@@ -14,7 +14,6 @@ use Rattle.value.specs.declared.Lent.{Lent}
 use Rattle.value.specs.declared.Lent.the-variants.{Well, Ill}
 use Rattle.value.specs.declared.Value.{Value}
 use Rattle.ops.specs.Ops as Ops
-use Rattle.ops.specs.Arith as Arith
 use Rattle.ops.specs.Not as Not
 use Rattle.value.specs.Answer.{Result, is, fault, resultOf}
 use Rattle.value.specs.declared.answer.Answer.{Answer}
@@ -74,16 +73,16 @@ module _ (k : ℕ) {x : Answer} where
     unfolding both on
     both-are f q = rw (e, f) q
 
-  pub unary-fault : {n : ℕ} → x ≡ A.Fault n → resultOf x ≡ on (cond (eqb k 6) Arith.minusOf Not.notOf) (resultOf x)
+  pub unary-fault : {n : ℕ} → x ≡ A.Fault n → resultOf x ≡ on (cond (eqb k 6) Ops.minusOf Not.notOf) (resultOf x)
   unfolding on
   unary-fault e = rw e
 
   module _ {a : Value} (e : x ≡ A.Is a) {r : Result} where
-    pub unary-minus : k ≡ 6 → r ≡ Arith.minusOf (meaning a) → r ≡ on (cond (eqb k 6) Arith.minusOf Not.notOf) (resultOf x)
+    pub unary-minus : k ≡ 6 → r ≡ Ops.minusOf (meaning a) → r ≡ on (cond (eqb k 6) Ops.minusOf Not.notOf) (resultOf x)
     unfolding on
     unary-minus h q = rw (e, eq-eqb k 6 h) q
 
-    pub unary-not : (k ≡ 6 → ⊥) → r ≡ Not.notOf (meaning a) → r ≡ on (cond (eqb k 6) Arith.minusOf Not.notOf) (resultOf x)
+    pub unary-not : (k ≡ 6 → ⊥) → r ≡ Not.notOf (meaning a) → r ≡ on (cond (eqb k 6) Ops.minusOf Not.notOf) (resultOf x)
     unfolding on
     unary-not h q = rw (e, ne-eqb k 6 h) q
 

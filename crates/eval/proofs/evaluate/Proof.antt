@@ -1,4 +1,4 @@
--- `eval::evaluate` meets its contract: a chain of tests, and the check's 0 is what `eval_node` asks of its table. Assumes nothing.
+-- `eval::evaluate` meets its contract: a chain of tests, and the check's 0 is what `eval_node` asks of its table.
 use borrow.Author.Needs.{needs}
 use Rattle.eval.proofs.Entry.{entry, in-kinds, in-payloads, root, lends}
 use Rattle.eval.proofs.evaluate.Statement.{statement}

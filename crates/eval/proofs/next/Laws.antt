@@ -1,4 +1,4 @@
--- Tests and the rule of a node, over plain values. Assumes nothing.
+-- Tests and the rule of a node, over plain values.
 use mathlib.Core.Path.{_≡_, refl, sym, _∙_, subst}
 use mathlib.Core.Bool.{Bool, true, false, cond}
 use mathlib.Core.List.{List}
@@ -10,7 +10,8 @@ use lib.IntN.{ℤ}
 use lib.Ieee.{Float}
 use borrow.Author.Tests.{le-leb, lt-leb, leb-false, ne-eqb, eqb-false}
 use Rattle.faults.specs.Numbers.{wrongKind}
-use Rattle.table.specs.Table.{kindAt, child1, child2, child3, Node, Inner, ChildIs}
+use Rattle.table.specs.Table.{kindAt, child1, child2, child3}
+use Rattle.table.specs.Nodes.{Node, Inner, ChildIs}
 use Rattle.value.specs.Value.{meaning}
 use Rattle.value.specs.declared.Value.{Value}
 use Rattle.value.specs.declared.Value.the-variants as C

@@ -1,4 +1,4 @@
--- `eval_replay::main` ends: the loop counts the records. Assumes nothing.
+-- `eval_replay::main` ends: the loop counts the records.
 use Prim.Native.Nat.{_-_}
 use borrow.Author.Needs.{needs}
 use Rattle.eval_replay.proofs.main.Statement.{statement}

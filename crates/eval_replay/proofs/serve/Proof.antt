@@ -1,4 +1,4 @@
--- `eval_replay::serve` is safe: what is cut off lies within its slice. Assumes nothing.
+-- `eval_replay::serve` is safe: what is cut off lies within its slice.
 use lib.Seq.{length-take-le}
 use borrow.Author.Needs.{needs}
 use Rattle.eval_replay.proofs.serve.Statement.{statement}

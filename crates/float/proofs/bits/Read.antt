@@ -1,4 +1,4 @@
--- What the kit reads from a pattern is what `read` reads: `real` takes a float of the kit's to whole steps of 2^-1074, and loses nothing (`Exact`). Assumes nothing.
+-- What the kit reads from a pattern is what `read` reads: `real` takes a float of the kit's to whole steps of 2^-1074, and loses nothing (`Exact`).
 use mathlib.Core.Path.{_≡_, refl, sym, ap, _∙_, subst}
 use mathlib.Core.Bool.{Bool, true, false, not, cond}
 use Prim.Native.Nat.{ℕ, zero, suc, _+_, _*_, _/_, _%_, _^_, _<_}

@@ -1,4 +1,4 @@
--- A / C and a / L are the same fraction: what is asked of A can be asked of a. Assumes nothing.
+-- A / C and a / L are the same fraction: what is asked of A can be asked of a.
 use mathlib.Core.Path.{_≡_, sym, ap, ap₂, _∙_}
 use Prim.Native.Nat.{ℕ, _+_, _-_, _*_, _≤_, _<_, _^_}
 use native.Mathlib.Nat.{le-of-eq, le-trans, lt-of-le-of-lt, lt-of-lt-of-le, zero-mul, mul-comm, mul-assoc, mul-right-comm, add-mul, mul-sub, mul-le-mul-right, mul-lt-mul-of-pos-right, le-of-mul-le-mul-right, lt-of-mul-lt-mul-right, eq-of-mul-eq-mul-right}

@@ -1,4 +1,4 @@
--- The kit's comparisons of floats are those of `specs/FloatOrder`, which compare whole numbers of steps. Assumes nothing.
+-- The kit's comparisons of floats are those of `specs/FloatOrder`, which compare whole numbers of steps.
 use mathlib.Core.Path.{_≡_, refl, sym, ap, ap₂, _∙_}
 use mathlib.Core.Bool.{Bool, true, false, not, _&&_, _||_, Bool·beq, cond}
 use Prim.Native.Nat.{ℕ, zero, suc, _+_, _*_, _/_, _<_, _^_}

@@ -11,7 +11,8 @@ use lib.Signed.{mag, leZ, ltZ, nonNeg}
 use mir.Syntax.{w8, w16, w64}
 use mir.Val.{Fits, SFits, toZ, ofZ}
 use borrow.Author.Tests.{lt-ltb, le-ltb, ltb-true, ltb-false, leb-true, eq-eqb, ne-eqb, le-leb, lt-leb}
-use Rattle.table.specs.Table.{kindAt, payloadAt, Inner}
+use Rattle.table.specs.Table.{kindAt, payloadAt}
+use Rattle.table.specs.Nodes.{Inner}
 use Rattle.table.specs.Tree.{int, Tree, leaf, Kind, leafKind, unaryKind, binaryKind, ternaryKind, noKind, kindOf, tree}
 use Rattle.table.proofs.Arities.{at-kind}
 use Rattle.table.proofs.Trees.{View, is-leaf, is-unary, is-binary, is-ternary, view, leaf-at}

@@ -1,4 +1,4 @@
--- A signed number as the machine holds it, its magnitude, and its bits in a field. Assumes nothing.
+-- A signed number as the machine holds it, its magnitude, and its bits in a field.
 use mathlib.Core.Path.{_≡_, refl, sym, ap, subst, _∙_}
 use mathlib.Core.Bool.{Bool, true, false}
 use Prim.Native.Nat.{ℕ, suc, _+_, _*_, _-_, _≤_, _<_, _^_}

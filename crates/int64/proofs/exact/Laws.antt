@@ -1,4 +1,4 @@
--- Signed numbers by their patterns: where 64 bits hold a sum, a difference or a product, and which pattern it has. Assumes nothing.
+-- Signed numbers by their patterns: where 64 bits hold a sum, a difference or a product, and which pattern it has.
 -- `subℕ m n` is m - n as an integer: `toZ w64 p` is `subℕ (up p) (2 ^ 63)`, so that sums and differences are questions on ℕ.
 use mathlib.Core.Path.{_≡_, refl, sym, ap, ap₂, _∙_}
 use mathlib.Core.Bool.{Bool, true, false, not, cond, Bool·beq}
@@ -14,12 +14,13 @@ use mir.Syntax.{w64}
 use mir.Val.{Fits, toZ, ofZ}
 use mir.ValLaws.{toZ-ofZ, ofZ-toZ}
 use borrow.Author.Tests.{lt-ltb, le-ltb, le-leb, lt-leb, ltb-true}
-use Rattle.int64.specs.Sign.{negative, withSign, bitsOf}
+use Rattle.int64.specs.Sign.{negative, withSign}
 use Rattle.int64.proofs.sign.Laws.{never, up}
 use Rattle.int64.specs.Exact as E
-use Rattle.int64.specs.Exact.{inRange, held}
-use Rattle.int64.specs.declared.exact.Arith.{Arith}
-use Rattle.int64.specs.declared.exact.Arith.the-variants.{Add, Sub, Mul}
+use Rattle.int64.specs.Exact.{inRange}
+use Rattle.int64.specs.Patterns.{bitsOf, fitted}
+use Rattle.int64.specs.declared.exact.Overflowing.{Overflowing}
+use Rattle.int64.specs.declared.exact.Overflowing.the-variants.{Add, Sub, Mul}
 
 -- ---- differences of two naturals
 
@@ -113,8 +114,8 @@ sum-up p q r a b c (inr x) (inr y) (inl z) e h = omega arith
 sum-up p q r a b c (inr x) (inr y) (inr z) e h = omega arith
 
 -- a pattern whose number lies where m - n does is the pattern of m - n
-held-by : (r m n : ℕ) → r < 2 ^ 64 → inRange (subℕ m n) ≡ true → (Bounds m n → up r + n ≡ m + 2 ^ 63) → r ≡ held (subℕ m n)
-unfolding held
+held-by : (r m n : ℕ) → r < 2 ^ 64 → inRange (subℕ m n) ≡ true → (Bounds m n → up r + n ≡ m + 2 ^ 63) → r ≡ fitted (subℕ m n)
+unfolding fitted
 held-by r m n h e k =
     let same : toZ w64 r ≡ subℕ m n = raised r h ∙ sub-same (up r) (2 ^ 63) m n (k (bounds m n e)) in
     rw e (sym (ap (ofZ w64) (sym same) ∙ ofZ-toZ w64 r (record { fits = h })))
@@ -133,7 +134,7 @@ module _ (p q : ℕ) (f : Fits w64 p) (g : Fits w64 q) where
   difference = ap₂ _-ℤ_ (raised p h) (raised q k) ∙ ap (λ (z : ℤ). subℕ (up p) (2 ^ 63) +ℤ z) (sub-neg (up q) (2 ^ 63)) ∙ sub-add (up p) (2 ^ 63) (2 ^ 63) (up q)
 
   -- whether they fit, by the tests of `fits`, with a and b the patterns raised
-  module _ (op : Arith) {a b : ℕ} (x : a ≡ up p) (y : b ≡ up q) where
+  module _ (op : Overflowing) {a b : ℕ} (x : a ≡ up p) (y : b ≡ up q) where
     pub sum-low : op ≡ Add → a < 2 ^ 63 → leb (2 ^ 63 - a) b ≡ inRange (E.arith op (toZ w64 p) (toZ w64 q))
     unfolding E.arith
     sum-low e l = rw (e, sum, x, y) (fits-by (2 ^ 63 - up p) (up q) (up p + up q) (2 ^ 64) (λ u. (omega arith, omega arith)) (λ u. inl (omega arith)))
@@ -151,13 +152,13 @@ module _ (p q : ℕ) (f : Fits w64 p) (g : Fits w64 q) where
     difference-high e l = rw (e, difference, x, y) (fits-by (suc (up p - 2 ^ 63)) (up q) (up p + 2 ^ 63) (2 ^ 63 + up q) (λ u. (omega arith, omega arith)) (λ u. inr (omega arith)))
 
   -- and which pattern they have
-  pub sum-held : (op : Arith) (r : ℕ) → op ≡ Add → r ≡ (p + q) % 2 ^ 64 → (t : Bool) → t ≡ inRange (E.arith op (toZ w64 p) (toZ w64 q)) → t ≡ true → r ≡ held (E.arith op (toZ w64 p) (toZ w64 q))
+  pub sum-held : (op : Overflowing) (r : ℕ) → op ≡ Add → r ≡ (p + q) % 2 ^ 64 → (t : Bool) → t ≡ inRange (E.arith op (toZ w64 p) (toZ w64 q)) → t ≡ true → r ≡ fitted (E.arith op (toZ w64 p) (toZ w64 q))
   unfolding E.arith
   sum-held op r e s b d t =
       rw (e, sum)
       (held-by r (up p + up q) (2 ^ 64) (omega arith) (rw (e, sum) at (sym d ∙ t)) (sum-up p q r (up p) (up q) (up r) (ups p h) (ups q k) (ups r (omega arith)) s))
 
-  pub difference-held : (op : Arith) (r : ℕ) → op ≡ Sub → Fits w64 r → (r + q) % 2 ^ 64 ≡ p → (t : Bool) → t ≡ inRange (E.arith op (toZ w64 p) (toZ w64 q)) → t ≡ true → r ≡ held (E.arith op (toZ w64 p) (toZ w64 q))
+  pub difference-held : (op : Overflowing) (r : ℕ) → op ≡ Sub → Fits w64 r → (r + q) % 2 ^ 64 ≡ p → (t : Bool) → t ≡ inRange (E.arith op (toZ w64 p) (toZ w64 q)) → t ≡ true → r ≡ fitted (E.arith op (toZ w64 p) (toZ w64 q))
   unfolding E.arith
   difference-held op r e l s b d t = rw (e, difference) (held-by r (up p + 2 ^ 63) (2 ^ 63 + up q) (l .fits) (rw (e, difference) at (sym d ∙ t)) (λ u. omega arith))
 
@@ -174,7 +175,7 @@ product (negsuc m) (pos n) = refl
 product (negsuc m) (negsuc n) = refl
 
 -- from what the code finds of the two signs and absolute values
-module _ (op : Arith) (p q : ℕ) {s t : Bool} {x y : ℕ} where
+module _ (op : Overflowing) (p q : ℕ) {s t : Bool} {x y : ℕ} where
   signs : op ≡ Mul → s ≡ negative (toZ w64 p) → t ≡ negative (toZ w64 q) → x ≡ natAbs (toZ w64 p) → y ≡ natAbs (toZ w64 q)
       → withSign (unlike s t) (x * y) ≡ E.arith op (toZ w64 p) (toZ w64 q)
   unfolding E.arith
@@ -184,9 +185,9 @@ module _ (op : Arith) (p q : ℕ) {s t : Bool} {x y : ℕ} where
       → y ≡ natAbs (toZ w64 q) → r ≡ inRange (E.arith op (toZ w64 p) (toZ w64 q))
   product-fits h e a b c d = h ∙ ap inRange (signs e a b c d)
 
-  pub product-held : {r : ℕ} → r ≡ held (withSign (unlike s t) (x * y)) → op ≡ Mul → s ≡ negative (toZ w64 p) → t ≡ negative (toZ w64 q) → x ≡ natAbs (toZ w64 p)
-      → y ≡ natAbs (toZ w64 q) → r ≡ held (E.arith op (toZ w64 p) (toZ w64 q))
-  product-held h e a b c d = h ∙ ap held (signs e a b c d)
+  pub product-held : {r : ℕ} → r ≡ fitted (withSign (unlike s t) (x * y)) → op ≡ Mul → s ≡ negative (toZ w64 p) → t ≡ negative (toZ w64 q) → x ≡ natAbs (toZ w64 p)
+      → y ≡ natAbs (toZ w64 q) → r ≡ fitted (E.arith op (toZ w64 p) (toZ w64 q))
+  product-held h e a b c d = h ∙ ap fitted (signs e a b c d)
 
 pub by-positive : (a : ℤ) (n : ℕ) → a *ℤ pos n ≡ withSign (negative a) (natAbs a * n)
 unfolding withSign negative
@@ -249,8 +250,8 @@ sign-bits false m h = refl
 sign-bits true zero h = refl
 sign-bits true (suc m) h = sym (mod-eq-of-lt (omega arith))
 
-pub times-held : (s : Bool) (m r : ℕ) → r ≡ bitsOf s m → (t : Bool) → t ≡ inRange (withSign s m) → t ≡ true → r ≡ held (withSign s m)
-unfolding held
+pub times-held : (s : Bool) (m r : ℕ) → r ≡ bitsOf s m → (t : Bool) → t ≡ inRange (withSign s m) → t ≡ true → r ≡ fitted (withSign s m)
+unfolding fitted
 times-held s m r e t d h = rw (sym d ∙ h) (e ∙ sym (sign-bits s m (sign-most s m (sym d ∙ h))))
 
 pub times-fits : (s : Bool) (m : ℕ) (t : Bool) → t ≡ inRange (withSign s m) → t ≡ true → Fits w64 m
@@ -261,8 +262,8 @@ pub sign-number : (s : Bool) (m : ℕ) → inRange (withSign s m) ≡ true → t
 unfolding inRange
 sign-number s m t = ap (toZ w64) (sym (sign-bits s m (sign-most s m t))) ∙ toZ-ofZ w64 (withSign s m) (record { sfits = ltb-true (mag (withSign s m)) (2 ^ 63) t })
 
-pub none-held : (z : ℤ) (t : Bool) → t ≡ inRange z → t ≡ false → 0 ≡ held z
-unfolding held
+pub none-held : (z : ℤ) (t : Bool) → t ≡ inRange z → t ≡ false → 0 ≡ fitted z
+unfolding fitted
 none-held z t d e = rw (sym d ∙ e)
 
 pub ruleset places = (sum-low, sum-high, difference-low, difference-high, sum-held, difference-held, none-held, times-held, times-fits, product-fits, product-held)

@@ -1,4 +1,4 @@
--- Which comparisons hold of two numbers, by their patterns. Assumes nothing.
+-- Which comparisons hold of two numbers, by their patterns.
 use mathlib.Core.Path.{_≡_, refl, sym, ap, ap₂, _∙_}
 use mathlib.Core.Bool.{Bool, true, false, not, _||_, cond}
 use Prim.Native.Nat.{ℕ, suc, _-_, _≤_, _<_, _^_}

@@ -1,4 +1,4 @@
--- Between a signed number of the code and its pattern: -1 - n has the other sign and the same `mag`. Assumes nothing.
+-- Between a signed number of the code and its pattern: -1 - n has the other sign and the same `mag`.
 use mathlib.Core.Path.{_≡_, refl, sym, ap, _∙_}
 use mathlib.Core.Bool.{true, false}
 use Prim.Native.Nat.{ℕ, zero, suc, _-_, _≤_, _^_}
@@ -36,7 +36,7 @@ down-is p f h =
     toZ-ofZ w64 (negsuc 0 -ℤ toZ w64 (2 ^ 64 - 1 - p)) (down-fits p h)
     ∙ rw (toZ-pos w64 (2 ^ 64 - 1 - p) (omega arith), less-one, le-ltb p (2 ^ 63) h) (ap negsuc (omega (arith, f .fits)))
 
--- ---- from a number, of which `n >= 0` held or did not
+-- ---- from a number, of which `n >= 0` fitted or did not
 
 module _ (n : ℤ) (s : SFits w64 n) where
   n-back : toZ w64 (ofZ w64 n) ≡ n

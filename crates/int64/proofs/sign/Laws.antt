@@ -1,4 +1,4 @@
--- Sign and absolute value of a number by its pattern. Assumes nothing.
+-- Sign and absolute value of a number by its pattern.
 use mathlib.Core.Path.{_≡_, sym, _∙_, subst}
 use mathlib.Core.Bool.{true, false}
 use Prim.Native.Nat.{ℕ, _+_, _-_, _*_, _%_, _≤_, _<_, _^_}

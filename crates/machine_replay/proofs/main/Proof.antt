@@ -1,4 +1,4 @@
--- `machine_replay::main` ends: the loop counts the records. Assumes nothing.
+-- `machine_replay::main` ends: the loop counts the records.
 use Prim.Native.Nat.{_-_}
 use borrow.Author.Needs.{needs}
 use Rattle.machine_replay.proofs.main.Statement.{statement}

@@ -1,4 +1,4 @@
--- `machine_replay::serve` is safe: each part lies within its buffer. Assumes nothing.
+-- `machine_replay::serve` is safe: each part lies within its buffer.
 use borrow.Author.Needs.{needs}
 use lib.Seq.{length-take-le}
 use Rattle.machine_replay.proofs.serve.Statement.{statement}

@@ -1,4 +1,4 @@
--- What each operator answers, as the code finds it. Assumes nothing.
+-- What each operator answers, as the code finds it.
 use mathlib.Core.Path.{_≡_, refl, sym, ap, ap₂, _∙_}
 use mathlib.Core.Bool.{Bool, true, false, _&&_}
 use Prim.Native.Nat.{ℕ}
@@ -21,7 +21,8 @@ use Rattle.value.specs.Seen.{shown, asNumber, counts}
 use Rattle.value.specs.declared.answer.Number.{Number}
 use Rattle.value.specs.declared.answer.Number.the-variants as N
 use Rattle.value.proofs.answer.Seen.{counted}
-use Rattle.ops.specs.Arith.{ofNumbers, fromInt, converted, floats, asFloats, arithOf, wholeOf, operateOf, intsOf}
+use Rattle.ops.specs.Arith.{ofNumbers, fromInt, converted, floats, asFloats, arithOf, wholeOf}
+use Rattle.ops.specs.Code.{operateOf, intsOf}
 use Rattle.ops.specs.declared.arith.How.{How}
 use Rattle.ops.specs.declared.arith.How.the-variants as H
 use Rattle.ops.specs.declared.arith.Ints.{Ints}
@@ -77,20 +78,20 @@ module _ (how : How) (a b : Number) {w : Ints} (k : w ≡ intsOf a b) where
   unfolding arithOf wholeOf shown
   ints i e f = let s = are a b (sym e ∙ k) in rw (s .0, s .1) (refl, refl)
 
-  pub arith-ints : {i : IntOp.Op} {f : FloatOp.Op} {p q : ℕ} {n : Outcome} {o : Result} → how ≡ H.Arith i f → w ≡ Are p q → n ≡ I.operate i (toZ w64 p) (toZ w64 q) → o ≡ fromInt n
+  pub arith-ints : {i : IntOp.Op} {f : FloatOp.Op} {p q : ℕ} {n : Outcome} {o : Result} → how ≡ H.Either i f → w ≡ Are p q → n ≡ I.operate i (toZ w64 p) (toZ w64 q) → o ≡ fromInt n
       → o ≡ operateOf how (shown a) (shown b)
   unfolding operateOf
   arith-ints {i} {f} h e d g = rw h (g ∙ ap fromInt d ∙ sym (ints i e f .0))
 
-  pub arith-others : {i : IntOp.Op} {f : FloatOp.Op} {o : Result} → how ≡ H.Arith i f → w ≡ Not → o ≡ asFloats f (shown a) (shown b) → o ≡ operateOf how (shown a) (shown b)
+  pub arith-others : {i : IntOp.Op} {f : FloatOp.Op} {o : Result} → how ≡ H.Either i f → w ≡ Not → o ≡ asFloats f (shown a) (shown b) → o ≡ operateOf how (shown a) (shown b)
   unfolding operateOf
   arith-others {i} {f} h e g = rw h (g ∙ sym (not-ints i f a b (sym e ∙ k) .0))
 
-  pub whole-ints : {i : IntOp.Op} {p q : ℕ} {n : Outcome} {o : Result} → how ≡ H.Whole i → w ≡ Are p q → n ≡ I.operate i (toZ w64 p) (toZ w64 q) → o ≡ fromInt n → o ≡ operateOf how (shown a) (shown b)
+  pub whole-ints : {i : IntOp.Op} {p q : ℕ} {n : Outcome} {o : Result} → how ≡ H.Ints i → w ≡ Are p q → n ≡ I.operate i (toZ w64 p) (toZ w64 q) → o ≡ fromInt n → o ≡ operateOf how (shown a) (shown b)
   unfolding operateOf
   whole-ints {i} h e d g = rw h (g ∙ ap fromInt d ∙ sym (ints i e FO.Add .1))
 
-  pub whole-others : {i : IntOp.Op} → how ≡ H.Whole i → w ≡ Not → fault wrongKind ≡ operateOf how (shown a) (shown b)
+  pub whole-others : {i : IntOp.Op} → how ≡ H.Ints i → w ≡ Not → fault wrongKind ≡ operateOf how (shown a) (shown b)
   unfolding operateOf
   whole-others {i} h e = rw h (sym (not-ints i FO.Add a b (sym e ∙ k) .1))
 
@@ -141,9 +142,9 @@ whole-seen i (float p) y = refl
 
 operate-seen : (how : How) (x y : Datum) → operateOf how (asNumber x) (asNumber y) ≡ operateOf how x y
 unfolding operateOf
-operate-seen (H.Arith i f) x y = arith-seen i f x y
+operate-seen (H.Either i f) x y = arith-seen i f x y
 operate-seen (H.Floats f) x y = no-number f x y
-operate-seen (H.Whole i) x y = whole-seen i x y
+operate-seen (H.Ints i) x y = whole-seen i x y
 
 pub operate-by : (how : How) (x y : Datum) {u v : Datum} {o : Result} → u ≡ asNumber x → v ≡ asNumber y → o ≡ operateOf how u v → o ≡ operateOf how x y
 operate-by how x y p q h = h ∙ ap₂ (operateOf how) p q ∙ operate-seen how x y

@@ -1,4 +1,4 @@
--- What each comparison answers, as the code finds it. Assumes nothing.
+-- What each comparison answers, as the code finds it.
 use mathlib.Core.Path.{_≡_, refl, sym, ap, ap₂, _∙_}
 use mathlib.Core.Bool.{Bool, true, false, _&&_, cond}
 use Prim.Native.Nat.{ℕ, _^_}

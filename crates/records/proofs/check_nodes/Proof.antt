@@ -1,6 +1,5 @@
--- `records::check_nodes` meets its contract: a walk of its MIR, by hand. `flatten` is lent the words and gives them back (`Flattens.antt`); then they go to `check_front` for good.
--- All that the proof knows of the two is that they meet their contracts; that the front's number is the records' is `Fills.antt`'s `check-is`.
--- Assumes nothing.
+-- `records::check_nodes` meets its contract: a walk of its MIR, by hand. `flatten` is lent the words and gives them back (`Flattens.antt`); then they go to `check_prefix` for good.
+-- All that the proof knows of the two is that they meet their contracts; that the prefix's number is the records' is `Fills.antt`'s `check-is`.
 use mathlib.Core.Path.{_≡_, refl, _∙_, ap}
 use Prim.Native.Nat.{ℕ, _<_, _^_}
 use mathlib.Core.List.{[], _∷_, List}
@@ -39,7 +38,7 @@ use denote.Triple.Table.{entered, cited}
 use denote.Triple.Walked.{says, Stays, stay-none-slice, gave-slice, stay-none, walkOf, goes-none-slice, goes-gave-slice, goes-none, Walks, ends-at, walked, walk-meets}
 use denote.Exit.{yes}
 use Rattle.records.specs.Records.{flattened}
-use Rattle.records.specs.Prefix.{checkFront}
+use Rattle.records.specs.Prefix.{checkPrefix}
 use Rattle.records.specs.declared.Node.{Node}
 use Rattle.records.proofs.Node as T
 use Rattle.table.specs.declared.Dest.{Dest}
@@ -53,10 +52,10 @@ use Rattle.records.proofs.Records.{Lent}
 use Rattle.records.proofs.flatten.Symbol as flatten-def
 use Rattle.records.proofs.flatten.Symbol.{name as #flatten}
 use Rattle.records.proofs.flatten.Met as flatten-thm
-use Rattle.records.proofs.prefix.check_front as check-front
-use Rattle.records.proofs.prefix.check_front.Symbol as check-front-def
-use Rattle.records.proofs.prefix.check_front.Symbol.{name as #check-front}
-use Rattle.records.proofs.prefix.check_front.Met as check-front-thm
+use Rattle.records.proofs.prefix.check_prefix as check-prefix
+use Rattle.records.proofs.prefix.check_prefix.Symbol as check-prefix-def
+use Rattle.records.proofs.prefix.check_prefix.Symbol.{name as #check-prefix}
+use Rattle.records.proofs.prefix.check_prefix.Met as check-prefix-thm
 use Rattle.records.proofs.check_nodes.Key.{name as #check-nodes}
 use Rattle.records.proofs.check_nodes as f
 use Rattle.records.proofs.check_nodes.Statement as stated
@@ -66,8 +65,8 @@ abbrev stayed : Stays (f.ended .signature .params) (f.ended .kept)
 stayed = (stay-none-slice (0 ∷ []) tt (plain (λ _. T.the-row)) yes, (gave-slice (1 ∷ []) tt (plain (λ _. u64)), (stay-none (λ _. u64) yes, (stay-none (λ _. u64) yes, (stay-none (λ _. D.the-row) yes, tt)))))
 
 -- the contracts that the proof cites
-abbrev Front : {M : Type 1} (𝓤 : URA M) (H : Heap 𝓤) (A : Atoms 𝓤) (mem : Memory → SProp 𝓤) (run : Routine → Fun 𝓤) → Contract 𝓤
-Front 𝓤 H A mem run = tripleOf 𝓤 H A check-front.signature (check-front.spec 𝓤 H A mem run)
+abbrev Prefix : {M : Type 1} (𝓤 : URA M) (H : Heap 𝓤) (A : Atoms 𝓤) (mem : Memory → SProp 𝓤) (run : Routine → Fun 𝓤) → Contract 𝓤
+Prefix 𝓤 H A mem run = tripleOf 𝓤 H A check-prefix.signature (check-prefix.spec 𝓤 H A mem run)
 
 module _ {M : Type 1} (𝓤 : URA M) (H : Heap 𝓤) (A : Atoms 𝓤) (W : Given 𝓤 H A) (at-mem : Memory → SProp 𝓤) (run : Routine → Fun 𝓤) (κ κ′ : Lft) (q q′ : Share) (bounds : AllOutlive 2 (f.signature .outlives) (κ, (κ′, tt)))
     (b o : ℕ) (γ : GName) (ys : List Node) (b′ o′ : ℕ) (γ′ : GName) (ws : List ℕ) (p l : ℕ) (dest : Dest) (room : Room T.the-row (length ys)) (room′ : Room u64 (length ws)) (p-fits : p < 2 ^ 64) (l-fits : l < 2 ^ 64)
@@ -100,7 +99,7 @@ module _ {M : Type 1} (𝓤 : URA M) (H : Heap 𝓤) (A : Atoms 𝓤) (W : Given
   abbrev Post : Val → SProp 𝓤
   Post = walkOf 𝓤 H A f.ended stayed (f.clauses 𝓤 H A at-mem run) .post (((κ, (κ′, tt)), (q, (q′, tt)), bounds, a, at), tt)
 
-  exits : (r : ℕ) (w : Val) (zs : List ℕ) → (r ≡ checkFront full n p l dest) × (zs ≡ full)
+  exits : (r : ℕ) (w : Val) (zs : List ℕ) → (r ≡ checkPrefix full n p l dest) × (zs ≡ full)
       → ent 𝓤 (⋆ 𝓤 H A (‵ (u8 .own r (w ∷ [])) ∷ (‵ (flft κ′ q′) ⊛ ‵ ftrue) ∷ ‵ (finally u64 γ′ zs) ∷ ‵ (flft κ q) ∷ ‵ (Lent κ γ ys b o) ∷ [])) (Post w)
   exits r w zs e =
       qed W (‵ (u8 .own r (w ∷ [])) ∷ (‵ (flft κ′ q′) ⊛ ‵ ftrue) ∷ ‵ (finally u64 γ′ zs) ∷ ‵ (flft κ q) ∷ ‵ (Lent κ γ ys b o) ∷ []) ∵
@@ -109,17 +108,17 @@ module _ {M : Type 1} (𝓤 : URA M) (H : Heap 𝓤) (A : Atoms 𝓤) (W : Given
       nothing ! $ owned ! D.the-row (Is D.the-row) (EL.makes D.the-type D′.the-plain 𝓤 H A) dest _ dest-is $ fjoin ! $ owned ! u64 (Is u64) (uint-makes 𝓤 H A W w64) l _ (refl, l-fits) $ fjoin ! $ owned ! u64 (Is u64) (uint-makes 𝓤 H A W w64) p _ (refl, p-fits) $ fjoin ! $
       move ! (2 ∷ 0 ∷ []) $ fjoin ! $ move ! (2 ∷ 0 ∷ []) $ fjoin ! $ frame ! $ done !
 
-  -- what `check_front`'s triple binds outside, and that the caller has what it asks
-  abbrev to-front : Front 𝓤 H A at-mem run .Ghost
-  to-front = (((κ′, tt), (q′, tt), tt, (words b′ o′ γ′ full, (n, (p, (l, (dest, tt))))), (s′ ∷ [], (vint w64 n ∷ [], (vint w64 p ∷ [], (vint w64 l ∷ [], (v ∷ [], tt)))))), tt)
+  -- what `check_prefix`'s triple binds outside, and that the caller has what it asks
+  abbrev to-prefix : Prefix 𝓤 H A at-mem run .Ghost
+  to-prefix = (((κ′, tt), (q′, tt), tt, (words b′ o′ γ′ full, (n, (p, (l, (dest, tt))))), (s′ ∷ [], (vint w64 n ∷ [], (vint w64 p ∷ [], (vint w64 l ∷ [], (v ∷ [], tt)))))), tt)
 
-  asks-front : ent 𝓤 (sep 𝓤 (A .lft κ′ q′) (sem 𝓤 H A (Words κ′ γ′ full (length ws) b′ o′))) (Front 𝓤 H A at-mem run .pre to-front)
-  asks-front =
+  asks-prefix : ent 𝓤 (sep 𝓤 (A .lft κ′ q′) (sem 𝓤 H A (Words κ′ γ′ full (length ws) b′ o′))) (Prefix 𝓤 H A at-mem run .pre to-prefix)
+  asks-prefix =
       qed W (‵ (flft κ′ q′) ∷ ‵ (Words κ′ γ′ full (length ws) b′ o′) ∷ []) ∵ nothing ! $ move ! (1 ∷ 0 ∷ []) $ join ! $ move ! (1 ∷ []) $ nothing ! $ owned ! D.the-row (Is D.the-row) (EL.makes D.the-type D′.the-plain 𝓤 H A) dest _ dest-is $ join ! $
       owned ! u64 (Is u64) (uint-makes 𝓤 H A W w64) l _ (refl, l-fits) $ join ! $ owned ! u64 (Is u64) (uint-makes 𝓤 H A W w64) p _ (refl, p-fits) $ join ! $ owned ! usize (Is usize) (uint-makes 𝓤 H A W w64) n _ (refl, room .0) $ join ! $
       move ! (1 ∷ 0 ∷ []) $ join ! $ move ! (1 ∷ 0 ∷ []) $ join ! $ frame ! $ done !
 
-  module _ (C : Calls 𝓤 H) (Λ : Loops 𝓤 H) (fm : FmC 𝓤 H (W .laws) C) (known : Triple 𝓤 (C #flatten) (Flatten 𝓤 H A at-mem run)) (known′ : Triple 𝓤 (C #check-front) (Front 𝓤 H A at-mem run)) where
+  module _ (C : Calls 𝓤 H) (Λ : Loops 𝓤 H) (fm : FmC 𝓤 H (W .laws) C) (known : Triple 𝓤 (C #flatten) (Flatten 𝓤 H A at-mem run)) (known′ : Triple 𝓤 (C #check-prefix) (Prefix 𝓤 H A at-mem run)) where
     walk : ent 𝓤 (onEntry 𝓤 H A f.signature (κ, (κ′, tt)) (q, (q′, tt)) a at) (WpFn 𝓤 H C Λ code.function (s ∷ s′ ∷ vint w64 p ∷ vint w64 l ∷ v ∷ []) Post)
     walk =
         qed W ((‵ (flft κ q) ⊛ ‵ (flft κ′ q′) ⊛ ‵ ftrue) ∷ ‵ (owns (ShrSlice (named 0) κ T.the-row ∷ MutSlice (named 1) κ′ u64 ∷ u64 ∷ u64 ∷ D.the-row ∷ []) a at) ∷ []) ∵ enter ! C Λ code.function (s ∷ s′ ∷ vint w64 p ∷ vint w64 l ∷ v ∷ []) _ $
@@ -139,12 +138,12 @@ module _ {M : Type 1} (𝓤 : URA M) (H : Heap 𝓤) (A : Atoms 𝓤) (W : Given
         assigns ! (addr ! (from ! (fld ! refl (hop ! (look-in ! 22 (sub ! 0 refl (whole !))) (stop !))))) (from ! (stop !)) (init ! 8 refl (tt, tt)) $
         assigns ! (agg ! (and-then ! (load ! (from ! (stop !)) (look ! 8 refl)) (and-then ! (load ! (from ! (fld ! refl (stop !))) (look-in ! 22 (sub ! 1 refl (whole !)))) (no-more !)))) (from ! (stop !)) (init ! 6 refl (tt, (tt, (record { fits = room′ .0 }, tt)))) $
         assigns ! (of-opd ! (load ! (from ! (fld ! refl (stop !))) (look-in ! 24 (sub ! 1 refl (whole !))))) (from ! (stop !)) (init ! 4 refl (tt, record { fits = room .0 })) $
-        -- `check_front`, to which the words go for good
-        move ! (1 ∷ 0 ∷ []) $ use2 W (raw (Front 𝓤 H A at-mem run .pre to-front)) asks-front $
-        calls-at ! fm (Front 𝓤 H A at-mem run) known′ to-front (and-then ! (load ! (from ! (stop !)) (look ! 5 refl)) (and-then ! (load ! (from ! (stop !)) (look ! 3 refl)) (and-then ! (load ! (from ! (stop !)) (look ! 19 refl)) (and-then ! (load ! (from ! (stop !)) (look ! 17 refl)) (and-then ! (load ! (from ! (stop !)) (look ! 15 refl)) (no-more !)))))) (λ u.
-        use1 W (later (some (λ (r′ : ℕ). ((‵ (flft κ′ q′) ⊛ ‵ ftrue) ⊛ ‵ (u8 .own r′ (u ∷ []))) ⊛ raw (ensured 𝓤 H A check-front.ended (check-front.clauses 𝓤 H A at-mem run) (κ′, tt) (words b′ o′ γ′ full, (n, (p, (l, (dest, tt))))) tt r′)))) (id⊢ 𝓤 _) $ await ! tt $ pick ! (λ r′.
-        split ! $ move ! (1 ∷ []) $ use1 W (some (λ (us : List ℕ × (Unit {0} × (Unit {0} × (Unit {0} × (Unit {0} × Unit {0}))))). ‵ (lasts check-front.ended (κ′, tt) (words b′ o′ γ′ full, (n, (p, (l, (dest, tt))))) us) ⊛ raw (fact 𝓤 ((r′ ≡ checkFront full n p l dest) × (us .0 ≡ full))))) (id⊢ 𝓤 _) $ pick ! (λ us.
-        split ! $ move ! (1 ∷ []) $ heard ! ((r′ ≡ checkFront full n p l dest) × (us .0 ≡ full)) (λ e′. fsplit ! $ fsplit ! $ move ! (1 ∷ []) $ feqL ! (λ same′. move ! (2 ∷ []) $ split ! $ move ! (1 ∷ []) $
+        -- `check_prefix`, to which the words go for good
+        move ! (1 ∷ 0 ∷ []) $ use2 W (raw (Prefix 𝓤 H A at-mem run .pre to-prefix)) asks-prefix $
+        calls-at ! fm (Prefix 𝓤 H A at-mem run) known′ to-prefix (and-then ! (load ! (from ! (stop !)) (look ! 5 refl)) (and-then ! (load ! (from ! (stop !)) (look ! 3 refl)) (and-then ! (load ! (from ! (stop !)) (look ! 19 refl)) (and-then ! (load ! (from ! (stop !)) (look ! 17 refl)) (and-then ! (load ! (from ! (stop !)) (look ! 15 refl)) (no-more !)))))) (λ u.
+        use1 W (later (some (λ (r′ : ℕ). ((‵ (flft κ′ q′) ⊛ ‵ ftrue) ⊛ ‵ (u8 .own r′ (u ∷ []))) ⊛ raw (ensured 𝓤 H A check-prefix.ended (check-prefix.clauses 𝓤 H A at-mem run) (κ′, tt) (words b′ o′ γ′ full, (n, (p, (l, (dest, tt))))) tt r′)))) (id⊢ 𝓤 _) $ await ! tt $ pick ! (λ r′.
+        split ! $ move ! (1 ∷ []) $ use1 W (some (λ (us : List ℕ × (Unit {0} × (Unit {0} × (Unit {0} × (Unit {0} × Unit {0}))))). ‵ (lasts check-prefix.ended (κ′, tt) (words b′ o′ γ′ full, (n, (p, (l, (dest, tt))))) us) ⊛ raw (fact 𝓤 ((r′ ≡ checkPrefix full n p l dest) × (us .0 ≡ full))))) (id⊢ 𝓤 _) $ pick ! (λ us.
+        split ! $ move ! (1 ∷ []) $ heard ! ((r′ ≡ checkPrefix full n p l dest) × (us .0 ≡ full)) (λ e′. fsplit ! $ fsplit ! $ move ! (1 ∷ []) $ feqL ! (λ same′. move ! (2 ∷ []) $ split ! $ move ! (1 ∷ []) $
         peeks ! u8 (Is u8) (shows 𝓤 H A u8) r′ (u ∷ []) (λ is.
         -- [the result; the token of words; the last list; true; the token of nodes; what nodes owns; _11; …]
         land ! (from ! (stop !)) (init ! 28 refl (uint-lawful 𝓤 H A W w8 .typed r′ _ is .0)) $
@@ -154,7 +153,7 @@ module _ {M : Type 1} (𝓤 : URA M) (H : Heap 𝓤) (A : Atoms 𝓤) (W : Given
         keep ! (0 ∷ 1 ∷ 2 ∷ 4 ∷ 5 ∷ []) $ by ! (exits r′ u (us .0) e′))))))))))))))))))))))
 
 module _ {M : Type 1} (𝓤 : URA M) (H : Heap 𝓤) (A : Atoms 𝓤) (W : Given 𝓤 H A) (mem : Memory → SProp 𝓤) (run : Routine → Fun 𝓤) (𝓣 : Tables 𝓤 H)
-    (known : Triple 𝓤 (𝓣 .C #flatten) (Flatten 𝓤 H A mem run)) (known′ : Triple 𝓤 (𝓣 .C #check-front) (Front 𝓤 H A mem run)) where
+    (known : Triple 𝓤 (𝓣 .C #flatten) (Flatten 𝓤 H A mem run)) (known′ : Triple 𝓤 (𝓣 .C #check-prefix) (Prefix 𝓤 H A mem run)) where
   f-walks : Walks 𝓤 H A f.ended stayed (WpFn 𝓤 H (𝓣 .C) (𝓣 .Λ) code.function) (f.clauses 𝓤 H A mem run)
   f-walks = walked 𝓤 H A f.ended stayed (f.clauses 𝓤 H A mem run) (WpFn 𝓤 H (𝓣 .C) (𝓣 .Λ) code.function)
       (λ κs. (slice-vals, (slice-vals, (uint-vals w64, (uint-vals w64, (EL.vals D.the-type D′.the-laws, tt))))))
@@ -174,4 +173,4 @@ check-nodes-spec 𝓤 H 𝓜 𝓖 𝓡 =
     (tables 𝓤 H 𝓜 𝓡 code.env .C) (tables 𝓤 H 𝓜 𝓡 code.env .Λ) #check-nodes code.function (code.unfolded 𝓤 H 𝓜 𝓡)
     (f-meets 𝓤 H (𝓖 .A) (givenOf 𝓤 H 𝓜 𝓖) (𝓜 .mem) (𝓡 .run) (tablesOf 𝓤 H 𝓜 (tables 𝓤 H 𝓜 𝓡 code.env))
     (cited 𝓤 H (Flatten 𝓤 H (𝓖 .A) (𝓜 .mem) (𝓡 .run)) 𝓜 𝓡 code.env #flatten flatten-def.routine code.calls-records·flatten (flatten-thm.met 𝓤 H 𝓜 𝓖 𝓡))
-    (cited 𝓤 H (Front 𝓤 H (𝓖 .A) (𝓜 .mem) (𝓡 .run)) 𝓜 𝓡 code.env #check-front check-front-def.routine code.calls-records·prefix·check-front (check-front-thm.met 𝓤 H 𝓜 𝓖 𝓡)))
+    (cited 𝓤 H (Prefix 𝓤 H (𝓖 .A) (𝓜 .mem) (𝓡 .run)) 𝓜 𝓡 code.env #check-prefix check-prefix-def.routine code.calls-records·prefix·check-prefix (check-prefix-thm.met 𝓤 H 𝓜 𝓖 𝓡)))

@@ -1,6 +1,5 @@
--- `records::compile_nodes` meets its contract: a walk of its MIR, by hand. `flatten` is lent the words and gives them back (`Flattens.antt`); then they go to `compile_front` for good, with the three lists that a compile writes.
--- All that the proof knows of the two is that they meet their contracts; that the front's compile is the records' is `Fills.antt`'s `compile-is`.
--- Assumes nothing.
+-- `records::compile_nodes` meets its contract: a walk of its MIR, by hand. `flatten` is lent the words and gives them back (`Flattens.antt`); then they go to `compile_prefix` for good, with the three lists that a compile writes.
+-- All that the proof knows of the two is that they meet their contracts; that the prefix's compile is the records' is `Fills.antt`'s `compile-is`.
 use mathlib.Core.Path.{_≡_, refl, _∙_, ap, subst}
 use Prim.Native.Nat.{ℕ, _<_, _^_}
 use mathlib.Core.List.{[], _∷_, List}
@@ -39,7 +38,7 @@ use denote.Triple.Table.{entered, cited}
 use denote.Triple.Walked.{says, Stays, stay-none-slice, gave-slice, stay-none, walkOf, goes-none-slice, goes-gave-slice, goes-none, Walks, ends-at, walked, walk-meets}
 use denote.Exit.{yes}
 use Rattle.records.specs.Records.{flattened}
-use Rattle.records.specs.Prefix.{compileFront}
+use Rattle.records.specs.Prefix.{compilePrefix}
 use Rattle.records.specs.declared.Node.{Node}
 use Rattle.records.proofs.Node as T
 use Rattle.emit.specs.State.{Res, State}
@@ -58,10 +57,10 @@ use Rattle.records.proofs.Records.{Lent}
 use Rattle.records.proofs.flatten.Symbol as flatten-def
 use Rattle.records.proofs.flatten.Symbol.{name as #flatten}
 use Rattle.records.proofs.flatten.Met as flatten-thm
-use Rattle.records.proofs.prefix.compile_front as compile-front
-use Rattle.records.proofs.prefix.compile_front.Symbol as compile-front-def
-use Rattle.records.proofs.prefix.compile_front.Symbol.{name as #compile-front}
-use Rattle.records.proofs.prefix.compile_front.Met as compile-front-thm
+use Rattle.records.proofs.prefix.compile_prefix as compile-prefix
+use Rattle.records.proofs.prefix.compile_prefix.Symbol as compile-prefix-def
+use Rattle.records.proofs.prefix.compile_prefix.Symbol.{name as #compile-prefix}
+use Rattle.records.proofs.prefix.compile_prefix.Met as compile-prefix-thm
 use Rattle.records.proofs.compile_nodes.Key.{name as #compile-nodes}
 use Rattle.records.proofs.compile_nodes as f
 use Rattle.records.proofs.compile_nodes.Statement as stated
@@ -86,8 +85,8 @@ stayed = (
 )
 
 -- the contract that the proof cites, beside `flatten`'s
-abbrev Front : {M : Type 1} (𝓤 : URA M) (H : Heap 𝓤) (A : Atoms 𝓤) (mem : Memory → SProp 𝓤) (run : Routine → Fun 𝓤) → Contract 𝓤
-Front 𝓤 H A mem run = tripleOf 𝓤 H A compile-front.signature (compile-front.spec 𝓤 H A mem run)
+abbrev Prefix : {M : Type 1} (𝓤 : URA M) (H : Heap 𝓤) (A : Atoms 𝓤) (mem : Memory → SProp 𝓤) (run : Routine → Fun 𝓤) → Contract 𝓤
+Prefix 𝓤 H A mem run = tripleOf 𝓤 H A compile-prefix.signature (compile-prefix.spec 𝓤 H A mem run)
 
 module _ {M : Type 1} (𝓤 : URA M) (H : Heap 𝓤) (A : Atoms 𝓤) (W : Given 𝓤 H A) (at-mem : Memory → SProp 𝓤) (run : Routine → Fun 𝓤) (κ κ′ κ₂ κ₃ κ₄ : Lft) (q q′ q₂ q₃ q₄ : Share) (bounds : AllOutlive 5 (f.signature .outlives) (κ, (κ′, (κ₂, (κ₃, (κ₄, tt))))))
     (b o : ℕ) (γ : GName) (ys : List Node) (b′ o′ : ℕ) (γ′ : GName) (ws : List ℕ) (p l : ℕ) (dest : Dest) (b₂ o₂ : ℕ) (γ₂ : GName) (cs : List ℕ) (b₃ o₃ : ℕ) (γ₃ : GName) (ks : List ℕ) (b₄ o₄ : ℕ) (γ₄ : GName) (ps : List ℕ)
@@ -150,7 +149,7 @@ module _ {M : Type 1} (𝓤 : URA M) (H : Heap 𝓤) (A : Atoms 𝓤) (W : Given
   Post = walkOf 𝓤 H A f.ended stayed (f.clauses 𝓤 H A at-mem run) .post (((κ, (κ′, (κ₂, (κ₃, (κ₄, tt))))), (q, (q′, (q₂, (q₃, (q₄, tt))))), bounds, a, at), tt)
 
   exits : (r : Compiled) (w : Val) (zs cs′ ks′ ps′ : List ℕ) → length cs′ ≡ length cs → length ks′ ≡ length ks → length ps′ ≡ length ps
-      → Compiles r (compileFront full n p l dest (length cs) (length ks) (length ps)) cs′ ks′ ps′ (length cs) (length ks) (length ps) → zs ≡ full
+      → Compiles r (compilePrefix full n p l dest (length cs) (length ks) (length ps)) cs′ ks′ ps′ (length cs) (length ks) (length ps) → zs ≡ full
       → ent 𝓤 (⋆ 𝓤 H A (‵ (Ans.the-row .own r (w ∷ [])) ∷ (‵ (flft κ′ q′) ⊛ ‵ (flft κ₂ q₂) ⊛ ‵ (flft κ₃ q₃) ⊛ ‵ (flft κ₄ q₄) ⊛ ‵ ftrue) ∷ ‵ (finally u64 γ₄ ps′) ∷ ‵ (finally u8 γ₃ ks′) ∷ ‵ (finally u64 γ₂ cs′) ∷ ‵ (finally u64 γ′ zs) ∷ ‵ (flft κ q) ∷ ‵ (Lent κ γ ys b o) ∷ [])) (Post w)
   exits r w zs cs′ ks′ ps′ same₂ same₃ same₄ done′ e =
       qed W (‵ (Ans.the-row .own r (w ∷ [])) ∷ (‵ (flft κ′ q′) ⊛ ‵ (flft κ₂ q₂) ⊛ ‵ (flft κ₃ q₃) ⊛ ‵ (flft κ₄ q₄) ⊛ ‵ ftrue) ∷ ‵ (finally u64 γ₄ ps′) ∷ ‵ (finally u8 γ₃ ks′) ∷ ‵ (finally u64 γ₂ cs′) ∷ ‵ (finally u64 γ′ zs) ∷ ‵ (flft κ q) ∷ ‵ (Lent κ γ ys b o) ∷ []) ∵
@@ -159,21 +158,21 @@ module _ {M : Type 1} (𝓤 : URA M) (H : Heap 𝓤) (A : Atoms 𝓤) (W : Given
       nothing ! $ move ! (2 ∷ 0 ∷ []) $ fjoin ! $ move ! (2 ∷ 0 ∷ []) $ fjoin ! $ move ! (2 ∷ 0 ∷ []) $ fjoin ! $ owned ! D.the-row (Is D.the-row) (EL.makes D.the-type D′.the-plain 𝓤 H A) dest _ dest-is $ fjoin ! $ owned ! u64 (Is u64) (uint-makes 𝓤 H A W w64) l _ (refl, l-fits) $ fjoin ! $ owned ! u64 (Is u64) (uint-makes 𝓤 H A W w64) p _ (refl, p-fits) $ fjoin ! $
       move ! (2 ∷ 0 ∷ []) $ fjoin ! $ move ! (2 ∷ 0 ∷ []) $ fjoin ! $ frame ! $ done !
 
-  -- what `compile_front`'s triple binds outside, and that the caller has what it asks
+  -- what `compile_prefix`'s triple binds outside, and that the caller has what it asks
   abbrev passed : RefT (List ℕ) × (ℕ × (ℕ × (ℕ × (Dest × (RefT (List ℕ) × (RefT (List ℕ) × (RefT (List ℕ) × Unit {0})))))))
   passed = (words b′ o′ γ′ full, (n, (p, (l, (dest, (cr, (kr, (pr, tt))))))))
 
-  abbrev to-front : Front 𝓤 H A at-mem run .Ghost
-  to-front = (((κ′, (κ₂, (κ₃, (κ₄, tt)))), (q′, (q₂, (q₃, (q₄, tt)))), tt, passed, (s′ ∷ [], (vint w64 n ∷ [], (vint w64 p ∷ [], (vint w64 l ∷ [], (v ∷ [], (s₂ ∷ [], (s₃ ∷ [], (s₄ ∷ [], tt))))))))), tt)
+  abbrev to-prefix : Prefix 𝓤 H A at-mem run .Ghost
+  to-prefix = (((κ′, (κ₂, (κ₃, (κ₄, tt)))), (q′, (q₂, (q₃, (q₄, tt)))), tt, passed, (s′ ∷ [], (vint w64 n ∷ [], (vint w64 p ∷ [], (vint w64 l ∷ [], (v ∷ [], (s₂ ∷ [], (s₃ ∷ [], (s₄ ∷ [], tt))))))))), tt)
 
-  asks-front : ent 𝓤 (sep 𝓤 (sep 𝓤 (A .lft κ′ q′) (sep 𝓤 (A .lft κ₂ q₂) (sep 𝓤 (A .lft κ₃ q₃) (A .lft κ₄ q₄)))) (sep 𝓤 (sem 𝓤 H A (Words κ′ γ′ full (length ws) b′ o′)) (sep 𝓤 (sem 𝓤 H A Code) (sep 𝓤 (sem 𝓤 H A Kinds) (sem 𝓤 H A Payloads))))) (Front 𝓤 H A at-mem run .pre to-front)
-  asks-front =
+  asks-prefix : ent 𝓤 (sep 𝓤 (sep 𝓤 (A .lft κ′ q′) (sep 𝓤 (A .lft κ₂ q₂) (sep 𝓤 (A .lft κ₃ q₃) (A .lft κ₄ q₄)))) (sep 𝓤 (sem 𝓤 H A (Words κ′ γ′ full (length ws) b′ o′)) (sep 𝓤 (sem 𝓤 H A Code) (sep 𝓤 (sem 𝓤 H A Kinds) (sem 𝓤 H A Payloads))))) (Prefix 𝓤 H A at-mem run .pre to-prefix)
+  asks-prefix =
       qed W ((‵ (flft κ′ q′) ⊛ ‵ (flft κ₂ q₂) ⊛ ‵ (flft κ₃ q₃) ⊛ ‵ (flft κ₄ q₄)) ∷ (‵ (Words κ′ γ′ full (length ws) b′ o′) ⊛ ‵ Code ⊛ ‵ Kinds ⊛ ‵ Payloads) ∷ []) ∵ split ! $ move ! (1 ∷ []) $ split ! $ move ! (1 ∷ []) $ split ! $
       nothing ! $ move ! (2 ∷ 0 ∷ []) $ join ! $ move ! (1 ∷ 0 ∷ []) $ join ! $ move ! (1 ∷ 0 ∷ []) $ join ! $ move ! (1 ∷ 0 ∷ []) $ join ! $ move ! (1 ∷ []) $ split ! $ move ! (1 ∷ []) $ split ! $ move ! (1 ∷ []) $ split ! $
       nothing ! $ move ! (2 ∷ 0 ∷ []) $ join ! $ move ! (1 ∷ 0 ∷ []) $ join ! $ move ! (1 ∷ 0 ∷ []) $ join ! $ owned ! D.the-row (Is D.the-row) (EL.makes D.the-type D′.the-plain 𝓤 H A) dest _ dest-is $ join ! $ owned ! u64 (Is u64) (uint-makes 𝓤 H A W w64) l _ (refl, l-fits) $ join ! $ owned ! u64 (Is u64) (uint-makes 𝓤 H A W w64) p _ (refl, p-fits) $ join ! $
       owned ! usize (Is usize) (uint-makes 𝓤 H A W w64) n _ (refl, room .0) $ join ! $ move ! (1 ∷ 0 ∷ []) $ join ! $ move ! (1 ∷ 0 ∷ []) $ join ! $ frame ! $ done !
 
-  module _ (C : Calls 𝓤 H) (Λ : Loops 𝓤 H) (fm : FmC 𝓤 H (W .laws) C) (known : Triple 𝓤 (C #flatten) (Flatten 𝓤 H A at-mem run)) (known′ : Triple 𝓤 (C #compile-front) (Front 𝓤 H A at-mem run)) where
+  module _ (C : Calls 𝓤 H) (Λ : Loops 𝓤 H) (fm : FmC 𝓤 H (W .laws) C) (known : Triple 𝓤 (C #flatten) (Flatten 𝓤 H A at-mem run)) (known′ : Triple 𝓤 (C #compile-prefix) (Prefix 𝓤 H A at-mem run)) where
     walk : ent 𝓤 (onEntry 𝓤 H A f.signature (κ, (κ′, (κ₂, (κ₃, (κ₄, tt))))) (q, (q′, (q₂, (q₃, (q₄, tt))))) a at) (WpFn 𝓤 H C Λ code.function (s ∷ s′ ∷ vint w64 p ∷ vint w64 l ∷ v ∷ s₂ ∷ s₃ ∷ s₄ ∷ []) Post)
     walk =
         qed W ((‵ (flft κ q) ⊛ ‵ (flft κ′ q′) ⊛ ‵ (flft κ₂ q₂) ⊛ ‵ (flft κ₃ q₃) ⊛ ‵ (flft κ₄ q₄) ⊛ ‵ ftrue) ∷ ‵ (owns (ShrSlice (named 0) κ T.the-row ∷ MutSlice (named 1) κ′ u64 ∷ u64 ∷ u64 ∷ D.the-row ∷ MutSlice (named 2) κ₂ u64 ∷ MutSlice (named 3) κ₃ u8 ∷ MutSlice (named 4) κ₄ u64 ∷ []) a at) ∷ []) ∵
@@ -204,13 +203,13 @@ module _ {M : Type 1} (𝓤 : URA M) (H : Heap 𝓤) (A : Atoms 𝓤) (W : Given
         assigns ! (agg ! (and-then ! (load ! (from ! (stop !)) (look ! 16 refl)) (and-then ! (load ! (from ! (fld ! refl (stop !))) (look-in ! 36 (sub ! 1 refl (whole !)))) (no-more !)))) (from ! (stop !)) (init ! 14 refl (tt, (tt, (record { fits = room₃ .0 }, tt)))) $
         assigns ! (addr ! (from ! (fld ! refl (hop ! (look-in ! 34 (sub ! 0 refl (whole !))) (stop !))))) (from ! (stop !)) (init ! 12 refl (tt, tt)) $
         assigns ! (agg ! (and-then ! (load ! (from ! (stop !)) (look ! 12 refl)) (and-then ! (load ! (from ! (fld ! refl (stop !))) (look-in ! 34 (sub ! 1 refl (whole !)))) (no-more !)))) (from ! (stop !)) (init ! 10 refl (tt, (tt, (record { fits = room₄ .0 }, tt)))) $
-        -- `compile_front`, to which the four lists go for good
-        move ! (5 ∷ 4 ∷ []) $ join ! $ move ! (5 ∷ 0 ∷ []) $ join ! $ move ! (1 ∷ 0 ∷ []) $ join ! $ move ! (5 ∷ 4 ∷ []) $ join ! $ move ! (5 ∷ 0 ∷ []) $ join ! $ move ! (2 ∷ 0 ∷ []) $ join ! $ use2 W (raw (Front 𝓤 H A at-mem run .pre to-front)) asks-front $
-        -- [what `compile_front` asks; the token of nodes; what nodes owns; _20; …]
-        calls-at ! fm (Front 𝓤 H A at-mem run) known′ to-front (and-then ! (load ! (from ! (stop !)) (look ! 17 refl)) (and-then ! (load ! (from ! (stop !)) (look ! 15 refl)) (and-then ! (load ! (from ! (stop !)) (look ! 37 refl)) (and-then ! (load ! (from ! (stop !)) (look ! 35 refl)) (and-then ! (load ! (from ! (stop !)) (look ! 33 refl)) (and-then ! (load ! (from ! (stop !)) (look ! 11 refl)) (and-then ! (load ! (from ! (stop !)) (look ! 7 refl)) (and-then ! (load ! (from ! (stop !)) (look ! 3 refl)) (no-more !))))))))) (λ u.
-        use1 W (later (some (λ (r′ : Compiled). ((‵ (flft κ′ q′) ⊛ ‵ (flft κ₂ q₂) ⊛ ‵ (flft κ₃ q₃) ⊛ ‵ (flft κ₄ q₄) ⊛ ‵ ftrue) ⊛ ‵ (Ans.the-row .own r′ (u ∷ []))) ⊛ raw (ensured 𝓤 H A compile-front.ended (compile-front.clauses 𝓤 H A at-mem run) (κ′, (κ₂, (κ₃, (κ₄, tt)))) passed tt r′)))) (id⊢ 𝓤 _) $ await ! tt $ pick ! (λ r′.
-        split ! $ move ! (1 ∷ []) $ use1 W (some (λ (us : List ℕ × (Unit {0} × (Unit {0} × (Unit {0} × (Unit {0} × (List ℕ × (List ℕ × (List ℕ × Unit {0})))))))). ‵ (lasts compile-front.ended (κ′, (κ₂, (κ₃, (κ₄, tt)))) passed us) ⊛ raw (fact 𝓤 ((Compiles r′ (compileFront full n p l dest (length cs) (length ks) (length ps)) (us .1 .1 .1 .1 .1 .0) (us .1 .1 .1 .1 .1 .1 .0) (us .1 .1 .1 .1 .1 .1 .1 .0) (length cs) (length ks) (length ps)) × (us .0 ≡ full))))) (id⊢ 𝓤 _) $ pick ! (λ us.
-        split ! $ move ! (1 ∷ []) $ heard ! ((Compiles r′ (compileFront full n p l dest (length cs) (length ks) (length ps)) (us .1 .1 .1 .1 .1 .0) (us .1 .1 .1 .1 .1 .1 .0) (us .1 .1 .1 .1 .1 .1 .1 .0) (length cs) (length ks) (length ps)) × (us .0 ≡ full)) (λ e′. fsplit ! $ fsplit ! $ move ! (1 ∷ []) $ feqL ! (λ same′.
+        -- `compile_prefix`, to which the four lists go for good
+        move ! (5 ∷ 4 ∷ []) $ join ! $ move ! (5 ∷ 0 ∷ []) $ join ! $ move ! (1 ∷ 0 ∷ []) $ join ! $ move ! (5 ∷ 4 ∷ []) $ join ! $ move ! (5 ∷ 0 ∷ []) $ join ! $ move ! (2 ∷ 0 ∷ []) $ join ! $ use2 W (raw (Prefix 𝓤 H A at-mem run .pre to-prefix)) asks-prefix $
+        -- [what `compile_prefix` asks; the token of nodes; what nodes owns; _20; …]
+        calls-at ! fm (Prefix 𝓤 H A at-mem run) known′ to-prefix (and-then ! (load ! (from ! (stop !)) (look ! 17 refl)) (and-then ! (load ! (from ! (stop !)) (look ! 15 refl)) (and-then ! (load ! (from ! (stop !)) (look ! 37 refl)) (and-then ! (load ! (from ! (stop !)) (look ! 35 refl)) (and-then ! (load ! (from ! (stop !)) (look ! 33 refl)) (and-then ! (load ! (from ! (stop !)) (look ! 11 refl)) (and-then ! (load ! (from ! (stop !)) (look ! 7 refl)) (and-then ! (load ! (from ! (stop !)) (look ! 3 refl)) (no-more !))))))))) (λ u.
+        use1 W (later (some (λ (r′ : Compiled). ((‵ (flft κ′ q′) ⊛ ‵ (flft κ₂ q₂) ⊛ ‵ (flft κ₃ q₃) ⊛ ‵ (flft κ₄ q₄) ⊛ ‵ ftrue) ⊛ ‵ (Ans.the-row .own r′ (u ∷ []))) ⊛ raw (ensured 𝓤 H A compile-prefix.ended (compile-prefix.clauses 𝓤 H A at-mem run) (κ′, (κ₂, (κ₃, (κ₄, tt)))) passed tt r′)))) (id⊢ 𝓤 _) $ await ! tt $ pick ! (λ r′.
+        split ! $ move ! (1 ∷ []) $ use1 W (some (λ (us : List ℕ × (Unit {0} × (Unit {0} × (Unit {0} × (Unit {0} × (List ℕ × (List ℕ × (List ℕ × Unit {0})))))))). ‵ (lasts compile-prefix.ended (κ′, (κ₂, (κ₃, (κ₄, tt)))) passed us) ⊛ raw (fact 𝓤 ((Compiles r′ (compilePrefix full n p l dest (length cs) (length ks) (length ps)) (us .1 .1 .1 .1 .1 .0) (us .1 .1 .1 .1 .1 .1 .0) (us .1 .1 .1 .1 .1 .1 .1 .0) (length cs) (length ks) (length ps)) × (us .0 ≡ full))))) (id⊢ 𝓤 _) $ pick ! (λ us.
+        split ! $ move ! (1 ∷ []) $ heard ! ((Compiles r′ (compilePrefix full n p l dest (length cs) (length ks) (length ps)) (us .1 .1 .1 .1 .1 .0) (us .1 .1 .1 .1 .1 .1 .0) (us .1 .1 .1 .1 .1 .1 .1 .0) (length cs) (length ks) (length ps)) × (us .0 ≡ full)) (λ e′. fsplit ! $ fsplit ! $ move ! (1 ∷ []) $ feqL ! (λ same′.
         -- [the last list of words; the rest; …]: n, params, locals and dest have none
         move ! (1 ∷ []) $ fsplit ! $ drop ! $ fsplit ! $ drop ! $ fsplit ! $ drop ! $ fsplit ! $ drop ! $ fsplit ! $ fsplit ! $ move ! (1 ∷ []) $ feqL ! (λ same₂. move ! (1 ∷ []) $ fsplit ! $ fsplit ! $ move ! (1 ∷ []) $ feqL ! (λ same₃.
         move ! (1 ∷ []) $ fsplit ! $ fsplit ! $ move ! (1 ∷ []) $ feqL ! (λ same₄. move ! (5 ∷ []) $ split ! $ move ! (1 ∷ []) $
@@ -222,7 +221,7 @@ module _ {M : Type 1} (𝓤 : URA M) (H : Heap 𝓤) (A : Atoms 𝓤) (W : Given
         keep ! (0 ∷ 1 ∷ 2 ∷ 4 ∷ 5 ∷ 6 ∷ 7 ∷ 8 ∷ []) $ by ! (exits r′ u (us .0) (us .1 .1 .1 .1 .1 .0) (us .1 .1 .1 .1 .1 .1 .0) (us .1 .1 .1 .1 .1 .1 .1 .0) same₂ same₃ same₄ (e′ .0) (e′ .1)))))))))))))))))))))))))))))))))))
 
 module _ {M : Type 1} (𝓤 : URA M) (H : Heap 𝓤) (A : Atoms 𝓤) (W : Given 𝓤 H A) (mem : Memory → SProp 𝓤) (run : Routine → Fun 𝓤) (𝓣 : Tables 𝓤 H)
-    (known : Triple 𝓤 (𝓣 .C #flatten) (Flatten 𝓤 H A mem run)) (known′ : Triple 𝓤 (𝓣 .C #compile-front) (Front 𝓤 H A mem run)) where
+    (known : Triple 𝓤 (𝓣 .C #flatten) (Flatten 𝓤 H A mem run)) (known′ : Triple 𝓤 (𝓣 .C #compile-prefix) (Prefix 𝓤 H A mem run)) where
   f-walks : Walks 𝓤 H A f.ended stayed (WpFn 𝓤 H (𝓣 .C) (𝓣 .Λ) code.function) (f.clauses 𝓤 H A mem run)
   f-walks = walked 𝓤 H A f.ended stayed (f.clauses 𝓤 H A mem run) (WpFn 𝓤 H (𝓣 .C) (𝓣 .Λ) code.function)
       (λ κs. (slice-vals, (slice-vals, (uint-vals w64, (uint-vals w64, (EL.vals D.the-type D′.the-laws, (slice-vals, (slice-vals, (slice-vals, tt)))))))))
@@ -270,4 +269,4 @@ compile-nodes-spec 𝓤 H 𝓜 𝓖 𝓡 =
     (tables 𝓤 H 𝓜 𝓡 code.env .C) (tables 𝓤 H 𝓜 𝓡 code.env .Λ) #compile-nodes code.function (code.unfolded 𝓤 H 𝓜 𝓡)
     (f-meets 𝓤 H (𝓖 .A) (givenOf 𝓤 H 𝓜 𝓖) (𝓜 .mem) (𝓡 .run) (tablesOf 𝓤 H 𝓜 (tables 𝓤 H 𝓜 𝓡 code.env))
     (cited 𝓤 H (Flatten 𝓤 H (𝓖 .A) (𝓜 .mem) (𝓡 .run)) 𝓜 𝓡 code.env #flatten flatten-def.routine code.calls-records·flatten (flatten-thm.met 𝓤 H 𝓜 𝓖 𝓡))
-    (cited 𝓤 H (Front 𝓤 H (𝓖 .A) (𝓜 .mem) (𝓡 .run)) 𝓜 𝓡 code.env #compile-front compile-front-def.routine code.calls-records·prefix·compile-front (compile-front-thm.met 𝓤 H 𝓜 𝓖 𝓡)))
+    (cited 𝓤 H (Prefix 𝓤 H (𝓖 .A) (𝓜 .mem) (𝓡 .run)) 𝓜 𝓡 code.env #compile-prefix compile-prefix-def.routine code.calls-records·prefix·compile-prefix (compile-prefix-thm.met 𝓤 H 𝓜 𝓖 𝓡)))

@@ -1,4 +1,4 @@
--- `records::copied` meets its contract: a law for each way out. Assumes nothing.
+-- `records::copied` meets its contract: a law for each way out.
 use borrow.Author.Needs.{needs}
 use Rattle.records.proofs.Laws.{copies}
 use Rattle.records.proofs.copied.Statement.{statement}

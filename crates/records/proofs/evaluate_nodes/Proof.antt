@@ -1,6 +1,5 @@
--- `records::evaluate_nodes` meets its contract: a walk of its MIR, by hand. `flatten` is lent the words and gives them back (`Flattens.antt`); then they go to `evaluate_front` for good.
--- All that the proof knows of the two is that they meet their contracts; that the front's answer is the records' is `Fills.antt`'s `evaluate-is`. The values are lent by `&`, which can be copied: one for `evaluate_front`, and one for the exit.
--- Assumes nothing.
+-- `records::evaluate_nodes` meets its contract: a walk of its MIR, by hand. `flatten` is lent the words and gives them back (`Flattens.antt`); then they go to `evaluate_prefix` for good.
+-- All that the proof knows of the two is that they meet their contracts; that the prefix's answer is the records' is `Fills.antt`'s `evaluate-is`. The values are lent by `&`, which can be copied: one for `evaluate_prefix`, and one for the exit.
 use mathlib.Core.Path.{_≡_, refl, _∙_, ap}
 use Prim.Native.Nat.{ℕ, _<_, _^_}
 use mathlib.Core.List.{[], _∷_, List}
@@ -39,7 +38,7 @@ use denote.Triple.Table.{entered, cited}
 use denote.Triple.Walked.{says, Stays, stay-none-slice, gave-slice, stay-none, walkOf, goes-none-slice, goes-gave-slice, goes-none, Walks, ends-at, walked, walk-meets}
 use denote.Exit.{yes}
 use Rattle.records.specs.Records.{flattened}
-use Rattle.records.specs.Prefix.{evaluateFront}
+use Rattle.records.specs.Prefix.{evaluatePrefix}
 use Rattle.records.specs.declared.Node.{Node}
 use Rattle.records.proofs.Node as T
 use Rattle.value.specs.Answer.{resultOf}
@@ -54,10 +53,10 @@ use Rattle.records.proofs.Records.{Lent}
 use Rattle.records.proofs.flatten.Symbol as flatten-def
 use Rattle.records.proofs.flatten.Symbol.{name as #flatten}
 use Rattle.records.proofs.flatten.Met as flatten-thm
-use Rattle.records.proofs.prefix.evaluate_front as evaluate-front
-use Rattle.records.proofs.prefix.evaluate_front.Symbol as evaluate-front-def
-use Rattle.records.proofs.prefix.evaluate_front.Symbol.{name as #evaluate-front}
-use Rattle.records.proofs.prefix.evaluate_front.Met as evaluate-front-thm
+use Rattle.records.proofs.prefix.evaluate_prefix as evaluate-prefix
+use Rattle.records.proofs.prefix.evaluate_prefix.Symbol as evaluate-prefix-def
+use Rattle.records.proofs.prefix.evaluate_prefix.Symbol.{name as #evaluate-prefix}
+use Rattle.records.proofs.prefix.evaluate_prefix.Met as evaluate-prefix-thm
 use Rattle.records.proofs.evaluate_nodes.Key.{name as #evaluate-nodes}
 use Rattle.records.proofs.evaluate_nodes as f
 use Rattle.records.proofs.evaluate_nodes.Statement as stated
@@ -67,8 +66,8 @@ abbrev stayed : Stays (f.ended .signature .params) (f.ended .kept)
 stayed = (stay-none-slice (0 ∷ []) tt (plain (λ _. T.the-row)) yes, (gave-slice (1 ∷ []) tt (plain (λ _. u64)), (stay-none (λ _. u64) yes, (stay-none (λ _. u64) yes, (stay-none-slice (2 ∷ []) tt (plain (λ _. u8)) yes, (stay-none-slice (3 ∷ []) tt (plain (λ _. u64)) yes, tt))))))
 
 -- the contract that the proof cites, beside `flatten`'s
-abbrev Front : {M : Type 1} (𝓤 : URA M) (H : Heap 𝓤) (A : Atoms 𝓤) (mem : Memory → SProp 𝓤) (run : Routine → Fun 𝓤) → Contract 𝓤
-Front 𝓤 H A mem run = tripleOf 𝓤 H A evaluate-front.signature (evaluate-front.spec 𝓤 H A mem run)
+abbrev Prefix : {M : Type 1} (𝓤 : URA M) (H : Heap 𝓤) (A : Atoms 𝓤) (mem : Memory → SProp 𝓤) (run : Routine → Fun 𝓤) → Contract 𝓤
+Prefix 𝓤 H A mem run = tripleOf 𝓤 H A evaluate-prefix.signature (evaluate-prefix.spec 𝓤 H A mem run)
 
 module _ {M : Type 1} (𝓤 : URA M) (H : Heap 𝓤) (A : Atoms 𝓤) (W : Given 𝓤 H A) (at-mem : Memory → SProp 𝓤) (run : Routine → Fun 𝓤) (κ κ′ κ₂ κ₃ : Lft) (q q′ q₂ q₃ : Share) (bounds : AllOutlive 4 (f.signature .outlives) (κ, (κ′, (κ₂, (κ₃, tt)))))
     (b o : ℕ) (γ : GName) (ys : List Node) (b′ o′ : ℕ) (γ′ : GName) (ws : List ℕ) (p l : ℕ) (b₂ o₂ : ℕ) (γ₂ : GName) (ks : List ℕ) (b₃ o₃ : ℕ) (γ₃ : GName) (ps : List ℕ)
@@ -117,7 +116,7 @@ module _ {M : Type 1} (𝓤 : URA M) (H : Heap 𝓤) (A : Atoms 𝓤) (W : Given
   abbrev Post : Val → SProp 𝓤
   Post = walkOf 𝓤 H A f.ended stayed (f.clauses 𝓤 H A at-mem run) .post (((κ, (κ′, (κ₂, (κ₃, tt)))), (q, (q′, (q₂, (q₃, tt)))), bounds, a, at), tt)
 
-  exits : (r : Answer) (w : Val) (zs : List ℕ) → (resultOf r ≡ evaluateFront full n p l ks ps) × (zs ≡ full)
+  exits : (r : Answer) (w : Val) (zs : List ℕ) → (resultOf r ≡ evaluatePrefix full n p l ks ps) × (zs ≡ full)
       → ent 𝓤 (⋆ 𝓤 H A (‵ (Ans.the-row .own r (w ∷ [])) ∷ (‵ (flft κ′ q′) ⊛ ‵ (flft κ₂ q₂) ⊛ ‵ (flft κ₃ q₃) ⊛ ‵ ftrue) ∷ ‵ (finally u64 γ′ zs) ∷ ‵ Kinds ∷ ‵ Payloads ∷ ‵ (flft κ q) ∷ ‵ (Lent κ γ ys b o) ∷ [])) (Post w)
   exits r w zs e =
       qed W (‵ (Ans.the-row .own r (w ∷ [])) ∷ (‵ (flft κ′ q′) ⊛ ‵ (flft κ₂ q₂) ⊛ ‵ (flft κ₃ q₃) ⊛ ‵ ftrue) ∷ ‵ (finally u64 γ′ zs) ∷ ‵ Kinds ∷ ‵ Payloads ∷ ‵ (flft κ q) ∷ ‵ (Lent κ γ ys b o) ∷ []) ∵
@@ -126,21 +125,21 @@ module _ {M : Type 1} (𝓤 : URA M) (H : Heap 𝓤) (A : Atoms 𝓤) (W : Given
       nothing ! $ move ! (4 ∷ 0 ∷ []) $ fjoin ! $ move ! (3 ∷ 0 ∷ []) $ fjoin ! $ owned ! u64 (Is u64) (uint-makes 𝓤 H A W w64) l _ (refl, l-fits) $ fjoin ! $ owned ! u64 (Is u64) (uint-makes 𝓤 H A W w64) p _ (refl, p-fits) $ fjoin ! $
       move ! (2 ∷ 0 ∷ []) $ fjoin ! $ move ! (2 ∷ 0 ∷ []) $ fjoin ! $ frame ! $ done !
 
-  -- what `evaluate_front`'s triple binds outside, and that the caller has what it asks
+  -- what `evaluate_prefix`'s triple binds outside, and that the caller has what it asks
   abbrev passed : RefT (List ℕ) × (ℕ × (ℕ × (ℕ × (RefT (List ℕ) × (RefT (List ℕ) × Unit {0})))))
   passed = (words b′ o′ γ′ full, (n, (p, (l, (kr, (pr, tt))))))
 
-  abbrev to-front : Front 𝓤 H A at-mem run .Ghost
-  to-front = (((κ′, (κ₂, (κ₃, tt))), (q′, (q₂, (q₃, tt))), tt, passed, (s′ ∷ [], (vint w64 n ∷ [], (vint w64 p ∷ [], (vint w64 l ∷ [], (s₂ ∷ [], (s₃ ∷ [], tt))))))), tt)
+  abbrev to-prefix : Prefix 𝓤 H A at-mem run .Ghost
+  to-prefix = (((κ′, (κ₂, (κ₃, tt))), (q′, (q₂, (q₃, tt))), tt, passed, (s′ ∷ [], (vint w64 n ∷ [], (vint w64 p ∷ [], (vint w64 l ∷ [], (s₂ ∷ [], (s₃ ∷ [], tt))))))), tt)
 
-  asks-front : ent 𝓤 (sep 𝓤 (sep 𝓤 (A .lft κ′ q′) (sep 𝓤 (A .lft κ₂ q₂) (A .lft κ₃ q₃))) (sep 𝓤 (sem 𝓤 H A (Words κ′ γ′ full (length ws) b′ o′)) (sep 𝓤 (sem 𝓤 H A Kinds) (sem 𝓤 H A Payloads)))) (Front 𝓤 H A at-mem run .pre to-front)
-  asks-front =
+  asks-prefix : ent 𝓤 (sep 𝓤 (sep 𝓤 (A .lft κ′ q′) (sep 𝓤 (A .lft κ₂ q₂) (A .lft κ₃ q₃))) (sep 𝓤 (sem 𝓤 H A (Words κ′ γ′ full (length ws) b′ o′)) (sep 𝓤 (sem 𝓤 H A Kinds) (sem 𝓤 H A Payloads)))) (Prefix 𝓤 H A at-mem run .pre to-prefix)
+  asks-prefix =
       qed W ((‵ (flft κ′ q′) ⊛ ‵ (flft κ₂ q₂) ⊛ ‵ (flft κ₃ q₃)) ∷ (‵ (Words κ′ γ′ full (length ws) b′ o′) ⊛ ‵ Kinds ⊛ ‵ Payloads) ∷ []) ∵ split ! $ move ! (1 ∷ []) $ split ! $
       nothing ! $ move ! (2 ∷ 0 ∷ []) $ join ! $ move ! (1 ∷ 0 ∷ []) $ join ! $ move ! (1 ∷ 0 ∷ []) $ join ! $ move ! (1 ∷ []) $ split ! $ move ! (1 ∷ []) $ split ! $
       nothing ! $ move ! (2 ∷ 0 ∷ []) $ join ! $ move ! (1 ∷ 0 ∷ []) $ join ! $ owned ! u64 (Is u64) (uint-makes 𝓤 H A W w64) l _ (refl, l-fits) $ join ! $ owned ! u64 (Is u64) (uint-makes 𝓤 H A W w64) p _ (refl, p-fits) $ join ! $
       owned ! usize (Is usize) (uint-makes 𝓤 H A W w64) n _ (refl, room .0) $ join ! $ move ! (1 ∷ 0 ∷ []) $ join ! $ move ! (1 ∷ 0 ∷ []) $ join ! $ frame ! $ done !
 
-  module _ (C : Calls 𝓤 H) (Λ : Loops 𝓤 H) (fm : FmC 𝓤 H (W .laws) C) (known : Triple 𝓤 (C #flatten) (Flatten 𝓤 H A at-mem run)) (known′ : Triple 𝓤 (C #evaluate-front) (Front 𝓤 H A at-mem run)) where
+  module _ (C : Calls 𝓤 H) (Λ : Loops 𝓤 H) (fm : FmC 𝓤 H (W .laws) C) (known : Triple 𝓤 (C #flatten) (Flatten 𝓤 H A at-mem run)) (known′ : Triple 𝓤 (C #evaluate-prefix) (Prefix 𝓤 H A at-mem run)) where
     walk : ent 𝓤 (onEntry 𝓤 H A f.signature (κ, (κ′, (κ₂, (κ₃, tt)))) (q, (q′, (q₂, (q₃, tt)))) a at) (WpFn 𝓤 H C Λ code.function (s ∷ s′ ∷ vint w64 p ∷ vint w64 l ∷ s₂ ∷ s₃ ∷ []) Post)
     walk =
         qed W ((‵ (flft κ q) ⊛ ‵ (flft κ′ q′) ⊛ ‵ (flft κ₂ q₂) ⊛ ‵ (flft κ₃ q₃) ⊛ ‵ ftrue) ∷ ‵ (owns (ShrSlice (named 0) κ T.the-row ∷ MutSlice (named 1) κ′ u64 ∷ u64 ∷ u64 ∷ ShrSlice (named 2) κ₂ u8 ∷ ShrSlice (named 3) κ₃ u64 ∷ []) a at) ∷ []) ∵
@@ -163,15 +162,15 @@ module _ {M : Type 1} (𝓤 : URA M) (H : Heap 𝓤) (A : Atoms 𝓤) (W : Given
         assigns ! (addr ! (from ! (fld ! refl (hop ! (look-in ! 28 (sub ! 0 refl (whole !))) (stop !))))) (from ! (stop !)) (init ! 12 refl (tt, tt)) $
         assigns ! (agg ! (and-then ! (load ! (from ! (stop !)) (look ! 12 refl)) (and-then ! (load ! (from ! (fld ! refl (stop !))) (look-in ! 28 (sub ! 1 refl (whole !)))) (no-more !)))) (from ! (stop !)) (init ! 10 refl (tt, (tt, (record { fits = room′ .0 }, tt)))) $
         assigns ! (of-opd ! (load ! (from ! (fld ! refl (stop !))) (look-in ! 30 (sub ! 1 refl (whole !))))) (from ! (stop !)) (init ! 8 refl (tt, record { fits = room .0 })) $
-        -- `evaluate_front`, to which the words go for good, with a copy of the values
+        -- `evaluate_prefix`, to which the words go for good, with a copy of the values
         move ! (4 ∷ []) $ use1 W (‵ Payloads ⊛ ‵ Payloads) (shr-slice-copy 𝓤 H A W (named 3) κ₃ u64 .twice pr (s₃ ∷ [])) $ split ! $ move ! (6 ∷ []) $ use1 W (‵ Kinds ⊛ ‵ Kinds) (shr-slice-copy 𝓤 H A W (named 2) κ₂ u8 .twice kr (s₂ ∷ [])) $ split ! $
         -- [what kinds owns, twice; what payloads owns, twice; what words owns; its token; the token of nodes; what nodes owns; the token of payloads; of kinds; _12; …]
-        move ! (0 ∷ 2 ∷ []) $ join ! $ move ! (3 ∷ 0 ∷ []) $ join ! $ move ! (7 ∷ 6 ∷ []) $ join ! $ move ! (4 ∷ 0 ∷ []) $ join ! $ use2 W (raw (Front 𝓤 H A at-mem run .pre to-front)) asks-front $
-        -- [what `evaluate_front` asks; what kinds owns; what payloads owns; the token of nodes; what nodes owns; _12; …]
-        calls-at ! fm (Front 𝓤 H A at-mem run) known′ to-front (and-then ! (load ! (from ! (stop !)) (look ! 7 refl)) (and-then ! (load ! (from ! (stop !)) (look ! 5 refl)) (and-then ! (load ! (from ! (stop !)) (look ! 23 refl)) (and-then ! (load ! (from ! (stop !)) (look ! 21 refl)) (and-then ! (load ! (from ! (stop !)) (look ! 19 refl)) (and-then ! (load ! (from ! (stop !)) (look ! 17 refl)) (no-more !))))))) (λ u.
-        use1 W (later (some (λ (r′ : Answer). ((‵ (flft κ′ q′) ⊛ ‵ (flft κ₂ q₂) ⊛ ‵ (flft κ₃ q₃) ⊛ ‵ ftrue) ⊛ ‵ (Ans.the-row .own r′ (u ∷ []))) ⊛ raw (ensured 𝓤 H A evaluate-front.ended (evaluate-front.clauses 𝓤 H A at-mem run) (κ′, (κ₂, (κ₃, tt))) passed tt r′)))) (id⊢ 𝓤 _) $ await ! tt $ pick ! (λ r′.
-        split ! $ move ! (1 ∷ []) $ use1 W (some (λ (us : List ℕ × (Unit {0} × (Unit {0} × (Unit {0} × (Unit {0} × (Unit {0} × Unit {0})))))). ‵ (lasts evaluate-front.ended (κ′, (κ₂, (κ₃, tt))) passed us) ⊛ raw (fact 𝓤 ((resultOf r′ ≡ evaluateFront full n p l ks ps) × (us .0 ≡ full))))) (id⊢ 𝓤 _) $ pick ! (λ us.
-        split ! $ move ! (1 ∷ []) $ heard ! ((resultOf r′ ≡ evaluateFront full n p l ks ps) × (us .0 ≡ full)) (λ e′. fsplit ! $ fsplit ! $ move ! (1 ∷ []) $ feqL ! (λ same′. move ! (2 ∷ []) $ split ! $ move ! (1 ∷ []) $
+        move ! (0 ∷ 2 ∷ []) $ join ! $ move ! (3 ∷ 0 ∷ []) $ join ! $ move ! (7 ∷ 6 ∷ []) $ join ! $ move ! (4 ∷ 0 ∷ []) $ join ! $ use2 W (raw (Prefix 𝓤 H A at-mem run .pre to-prefix)) asks-prefix $
+        -- [what `evaluate_prefix` asks; what kinds owns; what payloads owns; the token of nodes; what nodes owns; _12; …]
+        calls-at ! fm (Prefix 𝓤 H A at-mem run) known′ to-prefix (and-then ! (load ! (from ! (stop !)) (look ! 7 refl)) (and-then ! (load ! (from ! (stop !)) (look ! 5 refl)) (and-then ! (load ! (from ! (stop !)) (look ! 23 refl)) (and-then ! (load ! (from ! (stop !)) (look ! 21 refl)) (and-then ! (load ! (from ! (stop !)) (look ! 19 refl)) (and-then ! (load ! (from ! (stop !)) (look ! 17 refl)) (no-more !))))))) (λ u.
+        use1 W (later (some (λ (r′ : Answer). ((‵ (flft κ′ q′) ⊛ ‵ (flft κ₂ q₂) ⊛ ‵ (flft κ₃ q₃) ⊛ ‵ ftrue) ⊛ ‵ (Ans.the-row .own r′ (u ∷ []))) ⊛ raw (ensured 𝓤 H A evaluate-prefix.ended (evaluate-prefix.clauses 𝓤 H A at-mem run) (κ′, (κ₂, (κ₃, tt))) passed tt r′)))) (id⊢ 𝓤 _) $ await ! tt $ pick ! (λ r′.
+        split ! $ move ! (1 ∷ []) $ use1 W (some (λ (us : List ℕ × (Unit {0} × (Unit {0} × (Unit {0} × (Unit {0} × (Unit {0} × Unit {0})))))). ‵ (lasts evaluate-prefix.ended (κ′, (κ₂, (κ₃, tt))) passed us) ⊛ raw (fact 𝓤 ((resultOf r′ ≡ evaluatePrefix full n p l ks ps) × (us .0 ≡ full))))) (id⊢ 𝓤 _) $ pick ! (λ us.
+        split ! $ move ! (1 ∷ []) $ heard ! ((resultOf r′ ≡ evaluatePrefix full n p l ks ps) × (us .0 ≡ full)) (λ e′. fsplit ! $ fsplit ! $ move ! (1 ∷ []) $ feqL ! (λ same′. move ! (2 ∷ []) $ split ! $ move ! (1 ∷ []) $
         peeks ! Ans.the-row (Is Ans.the-row) (shows 𝓤 H A Ans.the-row) r′ (u ∷ []) (λ is.
         -- [the answer; the tokens of words and values; the last list; true; what kinds owns; what payloads owns; the token of nodes; what nodes owns; _12; …]
         land ! (from ! (stop !)) (init ! 32 refl (EL.lawful Ans.the-type Ans′.the-laws 𝓤 H A W tt .typed r′ _ is .0)) $
@@ -180,7 +179,7 @@ module _ {M : Type 1} (𝓤 : URA M) (H : Heap 𝓤) (A : Atoms 𝓤) (W : Given
         keep ! (0 ∷ 1 ∷ 2 ∷ 4 ∷ 5 ∷ 6 ∷ 7 ∷ []) $ by ! (exits r′ u (us .0) e′)))))))))))))))))))))))
 
 module _ {M : Type 1} (𝓤 : URA M) (H : Heap 𝓤) (A : Atoms 𝓤) (W : Given 𝓤 H A) (mem : Memory → SProp 𝓤) (run : Routine → Fun 𝓤) (𝓣 : Tables 𝓤 H)
-    (known : Triple 𝓤 (𝓣 .C #flatten) (Flatten 𝓤 H A mem run)) (known′ : Triple 𝓤 (𝓣 .C #evaluate-front) (Front 𝓤 H A mem run)) where
+    (known : Triple 𝓤 (𝓣 .C #flatten) (Flatten 𝓤 H A mem run)) (known′ : Triple 𝓤 (𝓣 .C #evaluate-prefix) (Prefix 𝓤 H A mem run)) where
   f-walks : Walks 𝓤 H A f.ended stayed (WpFn 𝓤 H (𝓣 .C) (𝓣 .Λ) code.function) (f.clauses 𝓤 H A mem run)
   f-walks = walked 𝓤 H A f.ended stayed (f.clauses 𝓤 H A mem run) (WpFn 𝓤 H (𝓣 .C) (𝓣 .Λ) code.function)
       (λ κs. (slice-vals, (slice-vals, (uint-vals w64, (uint-vals w64, (slice-vals, (slice-vals, tt)))))))
@@ -213,4 +212,4 @@ evaluate-nodes-spec 𝓤 H 𝓜 𝓖 𝓡 =
     (tables 𝓤 H 𝓜 𝓡 code.env .C) (tables 𝓤 H 𝓜 𝓡 code.env .Λ) #evaluate-nodes code.function (code.unfolded 𝓤 H 𝓜 𝓡)
     (f-meets 𝓤 H (𝓖 .A) (givenOf 𝓤 H 𝓜 𝓖) (𝓜 .mem) (𝓡 .run) (tablesOf 𝓤 H 𝓜 (tables 𝓤 H 𝓜 𝓡 code.env))
     (cited 𝓤 H (Flatten 𝓤 H (𝓖 .A) (𝓜 .mem) (𝓡 .run)) 𝓜 𝓡 code.env #flatten flatten-def.routine code.calls-records·flatten (flatten-thm.met 𝓤 H 𝓜 𝓖 𝓡))
-    (cited 𝓤 H (Front 𝓤 H (𝓖 .A) (𝓜 .mem) (𝓡 .run)) 𝓜 𝓡 code.env #evaluate-front evaluate-front-def.routine code.calls-records·prefix·evaluate-front (evaluate-front-thm.met 𝓤 H 𝓜 𝓖 𝓡)))
+    (cited 𝓤 H (Prefix 𝓤 H (𝓖 .A) (𝓜 .mem) (𝓡 .run)) 𝓜 𝓡 code.env #evaluate-prefix evaluate-prefix-def.routine code.calls-records·prefix·evaluate-prefix (evaluate-prefix-thm.met 𝓤 H 𝓜 𝓖 𝓡)))

@@ -1,7 +1,6 @@
 -- `records::flatten` meets its contract: a walk of its MIR, by hand, with a loop. `copied` says how many turns there are. In each turn the slice of records is looked into for record i,
 -- which is copied out, and the words are lent again to `put_node`, for a lifetime that is made for the call, and come back (`Again.antt`).
 -- The invariant At i: the words are `filled ys ws i`. All that the proof knows of `copied` and `put_node` is that they meet their contracts.
--- Assumes nothing.
 use mathlib.Core.Path.{_≡_, refl, sym, _∙_, ap, subst}
 use Prim.Native.Nat.{ℕ, suc, _+_, _*_, _-_, _≤_, _<_, _^_, zero-le}
 use native.Mathlib.Nat.{le-antisymm, add-zero, add-suc}

@@ -1,4 +1,4 @@
--- `records::put_node` meets its contract: four stores, each inside. Assumes nothing.
+-- `records::put_node` meets its contract: four stores, each inside.
 use borrow.Author.Needs.{needs}
 use Rattle.records.proofs.Laws.{puts}
 use Rattle.records.proofs.put_node.Statement.{statement}

@@ -1,4 +1,4 @@
--- `read_into` is safe and ends: the lent slices keep their lengths, and the count rises to n. Assumes nothing.
+-- `read_into` is safe and ends: the lent slices keep their lengths, and the count rises to n.
 use mathlib.Core.Path.{_≡_}
 use Prim.Native.Nat.{_≤_, _-_}
 use lib.ListN.{length}

@@ -1,4 +1,4 @@
--- `write_from` ends: the count rises to n. Assumes nothing.
+-- `write_from` ends: the count rises to n.
 use Prim.Native.Nat.{_≤_, _-_}
 use borrow.Author.Needs.{needs}
 use Rattle.replay_io.proofs.write_from.Statement.{statement}

@@ -1,4 +1,4 @@
--- `next` meets its contract: the quick step is the step, and where it is not taken nothing is changed. Assumes nothing.
+-- `next` meets its contract: the quick step is the step, and where it is not taken nothing is changed.
 use borrow.Author.Needs.{needs}
 use Rattle.run.proofs.NextLaws.{nexts}
 use Rattle.run.proofs.next.Statement.{statement}

@@ -1,4 +1,4 @@
--- `run` meets its contract: the checks before the first step, in their order. Assumes nothing.
+-- `run` meets its contract: the checks before the first step, in their order.
 use borrow.Author.Needs.{needs}
 use Rattle.machine.proofs.RunLaws.{starts}
 use Rattle.run.proofs.run.Statement.{statement}

@@ -1,4 +1,4 @@
--- `run_from` meets its contract. The loop's invariant: what is left of the run from here gives the whole answer. The measure is what is left of the budget. Assumes nothing.
+-- `run_from` meets its contract. The loop's invariant: what is left of the run from here gives the whole answer. The measure is what is left of the budget.
 use borrow.Author.Needs.{needs}
 use mathlib.Core.Path.{_≡_}
 use Prim.Native.Nat.{_≤_, _-_}

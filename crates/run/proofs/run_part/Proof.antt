@@ -1,4 +1,4 @@
--- `run_part` meets its contract: wrong bounds, or the run of the part. Assumes nothing.
+-- `run_part` meets its contract: wrong bounds, or the run of the part.
 use borrow.Author.Needs.{needs}
 use Rattle.machine.proofs.RunLaws.{starts}
 use Rattle.run.proofs.run_part.Statement.{statement}

@@ -1,4 +1,4 @@
--- What the code sees of a value is whether it is a number. Assumes nothing.
+-- What the code sees of a value is whether it is a number.
 use mathlib.Core.Path.{_≡_, refl, sym}
 use mathlib.Core.Bool.{true}
 use Rattle.int64.proofs.sign.Laws.{never}

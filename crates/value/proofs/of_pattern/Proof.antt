@@ -1,4 +1,4 @@
--- `value::of_pattern` meets its contract: by the test for a NaN. Assumes nothing.
+-- `value::of_pattern` meets its contract: by the test for a NaN.
 use mathlib.Core.Path.{sym, ap, _∙_}
 use borrow.Author.Needs.{needs}
 use lib.Ieee.{Float, binary64, toBits}
@@ -7,15 +7,6 @@ use Rattle.value.specs.Value.{float}
 use Rattle.value.proofs.of_pattern.Statement.{statement}
 use Rattle.value.proofs.of_pattern.Tie as tie
 
-is-nan-requires : tie.Need-is-nan-requires
-is-nan-requires c κs = search needs
-
-returns : tie.Need-returns
-returns c = search needs
-
-number-requires : tie.Need-number-requires
-number-requires c κs = search needs
-
 returns-2 : tie.Need-returns-2
 returns-2 c =
     let p = c .before .before .before .args .p in
@@ -23,4 +14,4 @@ returns-2 c =
     ∙ ap float (bits-back p (c .before .before .before .fits .p .fits) (sym (c .before .before .is-nan .ensures) ∙ c .before .if1 .left))
 
 pub of-pattern-spec : {M : Type 1} → statement M
-of-pattern-spec = tie.close (tie.spec is-nan-requires returns number-requires returns-2)
+of-pattern-spec = tie.close (tie.spec (λ c κs. search needs) (λ c. search needs) (λ c κs. search needs) returns-2)

@@ -1,4 +1,4 @@
--- `value_replay::main` ends: the loop counts the records. Assumes nothing.
+-- `value_replay::main` ends: the loop counts the records.
 use Prim.Native.Nat.{_-_}
 use borrow.Author.Needs.{needs}
 use Rattle.value_replay.proofs.main.Statement.{statement}

@@ -1,4 +1,4 @@
--- The numbers of the cells stand for what the crates below answer. Assumes nothing.
+-- The cells of each case of an answer are those that the definitions give it.
 use mathlib.Core.Path.{_≡_, refl, sym, _∙_, ap}
 use Prim.Native.Nat.{ℕ, zero, suc, _-_}
 use native.Mathlib.Omega.{arith}
@@ -15,9 +15,9 @@ use Rattle.insns.specs.declared.Insn.{Insn}
 use Rattle.insns.specs.declared.Made.{Made}
 use Rattle.insns.specs.declared.op.Op.{Op}
 use Rattle.decode.specs.declared.Decoded.{Decoded}
-use Rattle.operands.specs.OfOp.{partsOf}
-use Rattle.operands.specs.declared.of_op.Parts.{Parts}
-use Rattle.vosemaqe.specs.Results.{destOf, report, reportOf, found, foundOf, shown, shownAs, shownOf, coined, coinedOf}
+use Rattle.operands.specs.OfOp.{plain, plainOp}
+use Rattle.operands.specs.declared.of_op.PlainOp.{PlainOp}
+use Rattle.vosemaqe.specs.Results.{destOf, report, reportOf, evaluated, evaluatedOf, operands, operandsOf, encoded, encodedOf}
 
 -- ---- a destination
 
@@ -32,7 +32,7 @@ dest-reg (suc n) h = ap Reg (let z : suc n - 1 ≡ n = omega arith in z)
 
 pub ruleset dests = (dest-none, dest-reg)
 
--- ---- reports
+-- ---- answers
 
 pub report-done : {c : Compiled} {w s r f : ℕ} → c ≡ Done w s r f → report 0 w s r f ≡ reportOf c
 report-done e = rw e
@@ -40,22 +40,22 @@ report-done e = rw e
 pub report-refused : {c : Compiled} {n : ℕ} → c ≡ Refused n → report n 0 0 0 0 ≡ reportOf c
 report-refused e = rw e
 
-pub found-is : {a : Answer} {v : Value} {k p : ℕ} → a ≡ A.Is v → k ≡ kindOf (meaning v) → p ≡ payloadOf (meaning v) → found 0 k p ≡ foundOf (resultOf a)
-found-is e f g = rw (e, f, g)
+pub evaluated-is : {a : Answer} {v : Value} {k p : ℕ} → a ≡ A.Is v → k ≡ kindOf (meaning v) → p ≡ payloadOf (meaning v) → evaluated 0 k p ≡ evaluatedOf (resultOf a)
+evaluated-is e f g = rw (e, f, g)
 
-pub found-fault : {a : Answer} {n : ℕ} → a ≡ A.Fault n → found n 0 0 ≡ foundOf (resultOf a)
-found-fault e = rw e
+pub evaluated-fault : {a : Answer} {n : ℕ} → a ≡ A.Fault n → evaluated n 0 0 ≡ evaluatedOf (resultOf a)
+evaluated-fault e = rw e
 
-pub shown-is : {d : Decoded} {i : Op} {p : Parts} → d ≡ Decoded.Is i → p ≡ partsOf i → shownAs p ≡ shownOf d
-shown-is {i = i} e f = ap shownAs f ∙ ap shownOf (sym e)
+pub operands-is : {d : Decoded} {i : Op} {p : PlainOp} → d ≡ Decoded.Is i → p ≡ plainOp i → operands 0 p ≡ operandsOf d
+operands-is {i = i} e f = ap (operands 0) f ∙ ap operandsOf (sym e)
 
-pub shown-bad : {d : Decoded} → d ≡ Decoded.Bad → shown undecoded 0 0 0 0 0 0 ≡ shownOf d
-shown-bad e = ap shownOf (sym e)
+pub operands-bad : {d : Decoded} → d ≡ Decoded.Bad → operands undecoded (plain 0 0 0 0 0 0) ≡ operandsOf d
+operands-bad e = ap operandsOf (sym e)
 
-pub coined-fits : {m : Made} {w : Insn} → m ≡ Made.Fits w → coined 0 (w .bits) ≡ coinedOf m
-coined-fits e = rw e
+pub encoded-fits : {m : Made} {w : Insn} → m ≡ Made.Fits w → encoded 0 (w .bits) ≡ encodedOf m
+encoded-fits e = rw e
 
-pub coined-refused : {m : Made} → m ≡ Made.Refused → coined noFit 0 ≡ coinedOf m
-coined-refused e = rw e
+pub encoded-refused : {m : Made} → m ≡ Made.Refused → encoded noFit 0 ≡ encodedOf m
+encoded-refused e = rw e
 
-pub ruleset reports = (report-done, report-refused, found-is, found-fault, shown-is, shown-bad, coined-fits, coined-refused)
+pub ruleset reports = (report-done, report-refused, evaluated-is, evaluated-fault, operands-is, operands-bad, encoded-fits, encoded-refused)

@@ -1,4 +1,4 @@
--- `vosemaqe_check` is the check with the destination that the number stands for. Assumes nothing.
+-- `vosemaqe_check` is the check with the destination that the number stands for.
 use borrow.Author.Needs.{needs}
 use Rattle.vosemaqe.proofs.Laws.{functions}
 use Rattle.vosemaqe.proofs.vosemaqe_check.Statement.{statement}

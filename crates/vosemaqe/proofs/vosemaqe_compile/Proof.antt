@@ -1,4 +1,4 @@
--- `vosemaqe_compile` reports what `compile` answers. Assumes nothing.
+-- `vosemaqe_compile` reports what `compile` answers.
 use borrow.Author.Needs.{needs}
 use Rattle.vosemaqe.proofs.Laws.{functions}
 use Rattle.vosemaqe.proofs.vosemaqe_compile.Statement.{statement}

@@ -1,4 +1,4 @@
--- `vosemaqe_compile_with` reports what `compile_with` answers. Assumes nothing.
+-- `vosemaqe_compile_with` reports what `compile_with` answers.
 use borrow.Author.Needs.{needs}
 use Rattle.vosemaqe.proofs.Laws.{functions}
 use Rattle.vosemaqe.proofs.vosemaqe_compile_with.Statement.{statement}

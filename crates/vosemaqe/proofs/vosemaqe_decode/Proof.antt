@@ -1,4 +1,4 @@
--- `vosemaqe_decode` shows what `decode` answers. Assumes nothing.
+-- `vosemaqe_decode` shows what `decode` answers.
 use borrow.Author.Needs.{needs}
 use Rattle.vosemaqe.proofs.Laws.{functions}
 use Rattle.vosemaqe.proofs.vosemaqe_decode.Statement.{statement}

@@ -1,4 +1,4 @@
--- `vosemaqe_encode` gives the word that `encode` answers. Assumes nothing.
+-- `vosemaqe_encode` gives the word that `encode` answers.
 use borrow.Author.Needs.{needs}
 use Rattle.vosemaqe.proofs.Laws.{functions}
 use Rattle.vosemaqe.proofs.vosemaqe_encode.Statement.{statement}

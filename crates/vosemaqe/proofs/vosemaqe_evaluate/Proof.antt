@@ -1,4 +1,4 @@
--- `vosemaqe_evaluate` reports what `evaluate` answers. Assumes nothing.
+-- `vosemaqe_evaluate` reports what `evaluate` answers.
 use borrow.Author.Needs.{needs}
 use Rattle.vosemaqe.proofs.Laws.{functions}
 use Rattle.vosemaqe.proofs.vosemaqe_evaluate.Statement.{statement}

@@ -1,4 +1,4 @@
--- `vosemaqe_patch` gives the number of what `decode::patch` answers. Assumes nothing.
+-- `vosemaqe_patch` gives the number of what `decode::patch` answers.
 use borrow.Author.Needs.{needs}
 use Rattle.vosemaqe.proofs.Laws.{functions}
 use Rattle.vosemaqe.proofs.vosemaqe_patch.Statement.{statement}

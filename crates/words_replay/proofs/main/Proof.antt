@@ -1,4 +1,4 @@
--- `words_replay::main` ends: the loop counts the records. Assumes nothing.
+-- `words_replay::main` ends: the loop counts the records.
 use Prim.Native.Nat.{_-_}
 use borrow.Author.Needs.{needs}
 use Rattle.words_replay.proofs.main.Statement.{statement}

@@ -1,4 +1,4 @@
--- `words_replay::patch_in` is safe: the part lies within the store. Assumes nothing.
+-- `words_replay::patch_in` is safe: the part lies within the store.
 use mathlib.Core.Path.{sym}
 use native.Mathlib.Omega.{arith}
 use denote.Ref.{now}

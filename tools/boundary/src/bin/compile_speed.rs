@@ -1,6 +1,7 @@
 //! Nanoseconds a node of a compile: the house-mode Rust from the same tables
-//! (check, tree, generator), and the proved library through its boundary,
-//! in turns in one process, the best of several rounds.
+//! (check, tree, generator), the Rust's generator alone with its tree at hand,
+//! and the proved library through its boundary, which checks the table and
+//! generates; in turns in one process, the best of several rounds.
 //!     compile_speed [rounds]
 use boundary::{shapes, Made, Room};
 use std::hint::black_box;
@@ -16,15 +17,23 @@ fn rust(h: &mut house::Oracle, fun: &house::ast::Function, j: &Job) {
     black_box(h.emit(&t, fun, None));
 }
 
+/// The Rust's generator alone.
+fn generator(h: &mut house::Oracle, fun: &house::ast::Function, t: &house::ast::ExprBox) {
+    h.clear(usize::MAX, usize::MAX);
+    black_box(h.emit(t, fun, None));
+}
+
 /// A lent set of buffers for each job, or one for all.
 struct Way { name: &'static str, lent: Vec<Made> }
 
-/// Prints ns a node of the Rust, then ns and ratio for each way of lending.
+/// Prints ns a node of the Rust and of its generator alone, then ns and the
+/// ratio to the Rust for each way of lending, the first also to its generator.
 fn measure(name: &str, jobs: &[Job], rounds: u64) {
     let mut h = house::Oracle::new();
     let fun = house::function(jobs[0].params as u32, jobs[0].locals as u32);
     let nodes: usize = jobs.iter().map(|j| j.table.len() / 4).sum();
     let made: Vec<_> = jobs.iter().map(|j| h.compile(j).expect("an accepted job")).collect();
+    let trees: Vec<_> = jobs.iter().map(|j| house::tree(&j.table, j.params as u32)).collect();
     let rooms = |f: &dyn Fn(usize, &Compiled) -> Room| jobs.iter().zip(&made).map(|(j, c)| Made::lend(f(j.table.len() / 4, c))).collect();
     let mut ways: [Way; 4] = [
         Way { name: "tight", lent: rooms(&|_, c| Room::new(c.words.len(), c.consts.len())) },
@@ -34,13 +43,17 @@ fn measure(name: &str, jobs: &[Job], rounds: u64) {
     ];
     // short turns, so that some of them are not interrupted
     let repeat = (6_000 / nodes).max(1);
-    let mut best = [f64::MAX; 5];
+    let mut best = [f64::MAX; 6];
     for _ in 0..rounds {
         for (i, b) in best.iter_mut().enumerate() {
             let t = Instant::now();
             for _ in 0..repeat {
                 for k in 0..jobs.len() {
-                    if i == 0 { rust(&mut h, &fun, &jobs[k]) } else { let l = &mut ways[i - 1].lent; let n = l.len(); l[k % n].compile(black_box(&jobs[k])) }
+                    match i {
+                        0 => rust(&mut h, &fun, &jobs[k]),
+                        1 => generator(&mut h, &fun, black_box(&trees[k])),
+                        _ => { let l = &mut ways[i - 2].lent; let n = l.len(); l[k % n].compile(black_box(&jobs[k])) }
+                    }
                 }
             }
             *b = b.min(t.elapsed().as_nanos() as f64 / (repeat * nodes) as f64);
@@ -48,9 +61,9 @@ fn measure(name: &str, jobs: &[Job], rounds: u64) {
     }
     for w in &ways { for (m, c) in w.lent.iter().rev().zip(made.iter().rev()) { assert!(m.is(&Ok(c.clone())), "{name}, {}: another answer", w.name) } }
     let words: usize = made.iter().map(|c| c.words.len()).sum();
-    print!("{name:<34} {:5.2} {:7.1}", words as f64 / nodes as f64, best[0]);
-    for t in &best[1..] { print!(" {t:8.1} {:5.2}", t / best[0]) }
-    println!();
+    print!("{name:<34} {:5.2} {:7.1} {:7.1}", words as f64 / nodes as f64, best[0], best[1]);
+    for t in &best[2..] { print!(" {t:8.1} {:5.2}", t / best[0]) }
+    println!(" {:8.2}", best[2] / best[1]);
 }
 
 fn random(nodes: usize, typed: u64, n: u64) -> Vec<Job> {
@@ -63,7 +76,7 @@ fn random(nodes: usize, typed: u64, n: u64) -> Vec<Job> {
 fn main() {
     let [rounds] = runner::numbers([200]);
     runner::quiet();
-    println!("ns a node, and the ratio to the Rust    words    Rust    tight        4w 1s a node     any table     tight, jumps lent");
+    println!("ns a node, and the ratio to the Rust    words    Rust  alone   tight        4w 1s a node     any table     tight, jumps lent  tight to generator alone");
     for typed in [0, 97] {
         for (nodes, n) in [(10, 300), (30, 100), (64, 60), (65, 60), (100, 40), (300, 20), (1_000, 12), (2_000, 6), (4_096, 4)] {
             measure(&format!("{nodes} nodes, {}", if typed == 0 { "any kinds" } else { "kinds that fit" }), &random(nodes, typed, n), rounds);

@@ -5,47 +5,13 @@
 //! written in Rust.
 //!     large [random jobs] [seed] [nodes of the small trees]
 use boundary::{Lent, Made, Room};
-use runner::{explained, local};
+use runner::{explained, local, with_list};
 use std::collections::BTreeMap;
 use std::time::Instant;
-use tables::gen::{damage, good, tree, Rng, Shape};
+use tables::gen::{damage, float, good, int, tree, Rng, Shape};
 use tables::meaning::{self, V};
 use tables::small::{trees, LEAVES};
 use tables::*;
-
-/// Places of a jump list that node i takes as a value, in the order of the
-/// given rules: the later part goes to the right operand.
-fn value_jumps(t: &[u64], i: usize) -> usize {
-    let (c1, before) = (i.wrapping_sub(1), |c: usize| t[4 * c + 2] as usize - 1);
-    match t[4 * i] {
-        NIL..=REF => 0,
-        MINUS | NOT => value_jumps(t, c1),
-        EQ..=OR => branch_jumps(t, i, true).0,
-        TERNARY => {
-            let c2 = before(c1);
-            let (most, n) = branch_jumps(t, before(c2), false);
-            most.max(n + value_jumps(t, c2)).max(value_jumps(t, c1))
-        }
-        _ => value_jumps(t, before(c1)).max(value_jumps(t, c1)),
-    }
-}
-
-/// The same as a test: places taken at most, and jumps left pending.
-fn branch_jumps(t: &[u64], i: usize, sense: bool) -> (usize, usize) {
-    let (kind, c1) = (t[4 * i], i.wrapping_sub(1));
-    let c2 = || t[4 * c1 + 2] as usize - 1;
-    match kind {
-        NOT => branch_jumps(t, c1, !sense),
-        AND | OR => {
-            let by = kind == OR;
-            let (left, n) = branch_jumps(t, c2(), by);
-            let (right, m) = branch_jumps(t, c1, sense);
-            (left.max(n + right), if sense == by { n + m } else { m })
-        }
-        EQ..=GE => (value_jumps(t, c2()).max(value_jumps(t, c1)).max(1), 1),
-        _ => (value_jumps(t, i).max(1), 1),
-    }
-}
 
 /// Register contents as a caller lends them.
 #[derive(Clone)]
@@ -56,8 +22,13 @@ impl Pairs {
         let (kinds, payloads) = values.map(|v| v.pair()).unzip();
         Pairs { kinds, payloads }
     }
+    /// The library, which may only read these, left them as they were.
+    fn unwritten(&self, before: &Pairs) -> bool { unwritten(&self.kinds, &before.kinds) && unwritten(&self.payloads, &before.payloads) }
     fn cut(&self, n: usize) -> Pairs { Pairs { kinds: self.kinds[..n].to_vec(), payloads: self.payloads[..n].to_vec() } }
 }
+
+/// The compiler takes a shared slice to be unchanged; `black_box` has it looked at.
+fn unwritten<T: PartialEq>(now: &[T], before: &[T]) -> bool { std::hint::black_box(now) == before }
 
 struct Large {
     h: house::Oracle,
@@ -92,11 +63,18 @@ impl Large {
         let (published, mut seen) = (self.p.compile(job), vec![]);
         self.published += 1;
         // the house answer is the library's, or has been reported
-        let good = explained(job, &published, &want, &mut seen);
+        let good = explained(&mut self.h, job, &published, &want, &mut seen);
         seen.sort();
         seen.dedup();
         for s in seen { *self.seen.entry(s).or_default() += 1 }
         self.hold(good, "compile, as published", job.table.len(), || format!("{job:?}\n  published {published:?}\n  wanted {want:?}"));
+    }
+
+    /// One compile with so much room and a jump list that is lent.
+    fn meet_list(&mut self, job: &mut Job, room: Room) {
+        (job.max_words, job.max_slots) = (room.words, room.slots());
+        let want = with_list(&mut self.h, job, room.jumps.expect("a list"));
+        self.answer(job, room, &want);
     }
 
     /// One compile of the library's, held to an answer.
@@ -137,15 +115,22 @@ impl Large {
         if s > 0 { self.meet(job, Room { kinds: s - 1, ..Room::new(w, s) }); self.meet(job, Room { payloads: s - 1, ..Room::new(w + more, s + some) }) }
         let Ok(c) = free else { return None };
         // jumps
-        let n = value_jumps(&table, table.len() / 4 - 1);
+        let n = jumps::most(&table);
         self.answer(job, Room { jumps: Some(n), ..Room::new(w, s) }, &Ok(c.clone()));
         self.answer(job, Room { jumps: Some(n + 1 + some), ..Room::new(w + 1, s) }, &Ok(c.clone()));
         if n > 0 { self.answer(job, Room { jumps: Some(n - 1), ..Room::new(w + more, s + some) }, &Err(Refused(7))) }
+        // anything may be short, the slices of unequal length
+        let (words, kinds, payloads, places) = (self.r.below(w as u64 + 2), self.r.below(s as u64 + 2), self.r.below(s as u64 + 2), self.r.below(n as u64 + 1));
+        self.meet_list(job, Room { words: words as usize, kinds: kinds as usize, payloads: payloads as usize, jumps: Some(places as usize) });
         // registers: the highest base that is accepted, and the next
         let locals = job.locals;
         let temporaries = c.frame as u64 - job.base().max(1);
         job.locals = MAX_REGS - temporaries - job.params.min(MAX_REGS - temporaries);
-        for _ in 0..2 { self.meet(job, Room::new(w, s)); job.locals += 1 }
+        for _ in 0..2 {
+            self.meet(job, Room::new(w, s));
+            if n > 0 { self.meet_list(job, Room { jumps: Some(n - 1), ..Room::new(w, s) }) }
+            job.locals += 1;
+        }
         job.locals = locals;
         self.hold(job.table == table, "table written", table.len(), || format!("{table:?}"));
         Some(c)
@@ -154,9 +139,11 @@ impl Large {
     fn evaluate(&mut self, job: &Job, lent: &Pairs) {
         let want = meaning::evaluate(&job.table, job.params, job.locals, &lent.kinds, &lent.payloads);
         let want = match want { Ok(v) => (0, v.pair().0 as u64, v.pair().1), Err(n) => (n, 0, 0) };
+        let (table, before) = (job.table.clone(), lent.clone());
         let got = boundary::evaluate(job, &lent.kinds, &lent.payloads);
         *self.evaluated.entry(want.0).or_default() += 1;
-        self.hold(got == want, "evaluate", job.table.len(), || format!("{job:?}\n  {:?} {:x?}: {got:?}, wanted {want:?}", lent.kinds, lent.payloads));
+        let kept = unwritten(&job.table, &table) && lent.unwritten(&before);
+        self.hold(got == want && kept, "evaluate", job.table.len(), || format!("{job:?}\n  {:?} {:x?}: {got:?}, wanted {want:?}", lent.kinds, lent.payloads));
     }
 
     /// A run of the whole, or of the words from `entry` to `end` of a store;
@@ -164,6 +151,7 @@ impl Large {
     fn run(&mut self, words: &[u64], part: Option<(u64, u64)>, start: u64, lent: &Pairs, slots: &Pairs, budget: u64) -> u64 {
         let (mut kinds, mut payloads) = (Lent::of(&lent.kinds), Lent::of(&lent.payloads));
         let mut after = lent.clone();
+        let (code, consts) = (words.to_vec(), slots.clone());
         let (got, want) = match part {
             None => (boundary::run(words, start, kinds.part_mut(), payloads.part_mut(), &slots.kinds, &slots.payloads, budget),
                 meaning::run_lent(words, start, &mut after.kinds, &mut after.payloads, &slots.kinds, &slots.payloads, budget)),
@@ -172,9 +160,15 @@ impl Large {
         };
         *self.ran.entry(want.number).or_default() += 1;
         self.steps += want.steps;
-        let good = got == want && kinds.part() == after.kinds && payloads.part() == after.payloads && kinds.margins() && payloads.margins();
+        let good = got == want && kinds.part() == after.kinds && payloads.part() == after.payloads && kinds.margins() && payloads.margins()
+            && unwritten(words, &code) && slots.unwritten(&consts);
         self.hold(good, "run", words.len(), || format!("{words:x?} {part:?} start {start} budget {budget}\n  {:?} {:x?}: {got:?}, wanted {want:?}", lent.kinds, lent.payloads));
         want.steps
+    }
+
+    /// What may lie in a temporary before a run.
+    fn any_value(&mut self) -> V {
+        match self.r.below(4) { 0 => V::Nil, 1 => V::Bool(self.r.chance(50)), 2 => V::Int(int(&mut self.r)), _ => V::Float(f64::from_bits(float(&mut self.r))) }
     }
 
     /// Accepted words, run and evaluated on these locals: all of the budget,
@@ -193,6 +187,7 @@ impl Large {
         let base = job.base() as usize;
         let r = &mut self.r;
         let mut values = vec![V::Nil; (c.frame as usize).max(base)];
+        // the temporaries are among those past the base
         for (i, v) in values.iter_mut().enumerate() { if i < 8 || i + 1 >= base { *v = local(r, &job.table, i as u64) } }
         let all = Pairs::of(values.into_iter());
         self.means(job, c, &all);
@@ -252,7 +247,7 @@ impl Large {
                 let mut job = Job { dst, ..b.job(2) };
                 let Some(c) = self.rooms(&mut job) else { continue };
                 for l in locals {
-                    let rest = (2..c.frame).map(|_| V::Nil);
+                    let rest: Vec<V> = (2..c.frame).map(|_| self.any_value()).collect();
                     self.means(&job, &c, &Pairs::of(l.into_iter().chain(rest)))
                 }
             })
@@ -314,7 +309,10 @@ impl Large {
         for n in [63, 64] {
             let mut job = b().reg(0).int(n).op(LSHIFT).job(1);
             let c = self.rooms(&mut job).expect("sample 13 compiles");
-            for v in [0, 1, -1] { self.means(&job, &c, &Pairs::of([V::Int(v), V::Nil].into_iter().take(c.frame as usize))) }
+            for v in [0, 1, -1] {
+                let temporary = self.any_value();
+                self.means(&job, &c, &Pairs::of([V::Int(v), temporary].into_iter().take(c.frame as usize)))
+            }
         }
         let mut job = b().reg(0).job(1);
         let c = self.rooms(&mut job).expect("sample 14 compiles");

@@ -1,12 +1,12 @@
 //! Stack bytes of the exported functions: each is called on a stack of its
 //! own that was filled with a pattern, and what it changed below its caller
 //! is counted, the return address with it, the caller's arguments without.
-//! The most is printed over chains of every kind, in every place and over
-//! several leaves, and over chains mixed at random.
-//!     stack [random chains for each depth]
-//!     objdump -d --no-show-raw-insn --demangle stack | stack frames
-//! Prints the frame of each function, and for those that do not recurse the
-//! deepest way of calls.
+//! The most is printed for some depths, over chains of one kind, of two kinds
+//! and of several mixed at random, and for some numbers of nodes.
+//!     stack [random chains for each row]
+//!     objdump -d --no-show-raw-insn --demangle LINKED | stack frames
+//! Prints the frame of each function that the exported ones reach, and the
+//! deepest way of calls from each of those.
 use boundary::{shapes, Made, Room};
 use std::arch::asm;
 use std::collections::BTreeMap;
@@ -15,25 +15,25 @@ use tables::gen::{Rng, FLOATS};
 use tables::*;
 
 const SIZE: usize = 256 << 10;
+/// A byte that is written with what stood there does not show: two patterns.
+const PAINTS: [u64; 2] = [0xA5A5_A5A5_A5A5_A5A5, 0x5A5A_5A5A_5A5A_5A5A];
 
-/// A stack to be painted. The words at `TOP` are the arguments that do not
+/// A stack for each pattern. The words at `TOP` are the arguments that do not
 /// go into registers.
-struct Stack(Vec<u64>);
+struct Stack([Vec<u64>; 2]);
 const TOP: usize = SIZE / 8 - 32;
 
 impl Stack {
-    fn new() -> Stack { Stack(vec![0; SIZE / 8 + 2]) }
+    fn new() -> Stack { Stack(PAINTS.map(|p| vec![p; SIZE / 8 + 2])) }
 
     /// Bytes that the call of `f` changes below its caller.
     fn call(&mut self, f: usize, args: &[u64]) -> (u8, usize) {
         let mut out = (0, 0);
-        // a byte that is written with what stood there does not show: two patterns
-        for paint in [0xA5A5_A5A5_A5A5_A5A5, 0x5A5A_5A5A_5A5A_5A5A] {
-            self.0.fill(paint);
+        for (stack, paint) in self.0.iter_mut().zip(PAINTS) {
             // the stack pointer is a multiple of 16 at a call
-            let first = TOP + self.0.as_ptr() as usize / 8 % 2;
-            self.0[first..first + args.len() - 6].copy_from_slice(&args[6..]);
-            let top = &mut self.0[first] as *mut u64;
+            let first = TOP + stack.as_ptr() as usize / 8 % 2;
+            stack[first..first + args.len() - 6].copy_from_slice(&args[6..]);
+            let top = &mut stack[first] as *mut u64;
             let number: u64;
             unsafe {
                 asm!("mov r12, rsp", "mov rsp, {top}", "call {f}", "mov rsp, r12",
@@ -41,28 +41,35 @@ impl Stack {
                     inout("rdi") args[0] => _, inout("rsi") args[1] => _, inout("rdx") args[2] => _, inout("rcx") args[3] => _,
                     inout("r8") args[4] => _, inout("r9") args[5] => _, out("rax") number, clobber_abi("C"));
             }
-            let low = self.0[..first].iter().position(|w| *w != paint).unwrap_or(first);
+            let low = stack[..first].iter().position(|w| *w != paint).unwrap_or(first);
             assert!(low > 64, "the stack is large enough");
+            stack[low..].fill(paint);
             out = (number as u8, out.1.max(8 * (first - low)));
         }
         out
     }
 }
 
-struct Most { bytes: usize, what: String }
+/// What one table takes, in the order of `NAMES`.
+type Taken = [usize; 4];
+const NAMES: [&str; 4] = ["compile", "compile_with", "evaluate", "run"];
 
-/// The most for one function at one depth, with the chain that takes it.
+/// The most for each function, with the table that takes it.
+#[derive(Default)]
+struct Most([(usize, String); 4]);
+
 impl Most {
-    fn new() -> Most { Most { bytes: 0, what: String::new() } }
-    fn meet(&mut self, bytes: usize, what: &str) { if bytes > self.bytes { *self = Most { bytes, what: what.into() } } }
+    fn meet(&mut self, bytes: Taken, what: &str) {
+        for (m, b) in self.0.iter_mut().zip(bytes) { if b > m.0 { *m = (b, what.into()) } }
+    }
 }
 
 const LEAVES: [(u64, u64); 6] = [(REF, 0), (REF, 1), (INT, 5), (INT, 1 << 40), (FLOAT, FLOATS[7]), (TRUE, 0)];
+/// What the two locals hold: Bools, Ints, Floats.
+const LOCALS: [(u8, u64); 6] = [(1, 0), (1, 1), (2, 3), (2, 1 << 54), (3, FLOATS[7]), (3, 0x7FF8_0000_0000_0000)];
 
-struct Measured { with: Most, small: Most, large: Most, evaluate: Most, run: Most }
-
-/// One table through compile_with, compile, evaluate and run.
-fn table(s: &mut Stack, m: &mut Measured, b: &Builder, name: &str) {
+/// One table through compile, compile_with, evaluate and run, the last two on each of the locals given.
+fn taken(s: &mut Stack, b: &Builder, locals: &[(u8, u64)]) -> Taken {
     let [compile, compile_with, evaluate, run, ..] = boundary::addresses();
     let j = b.job(2);
     let (t, n) = (&j.table, j.table.len() / 4);
@@ -73,44 +80,90 @@ fn table(s: &mut Stack, m: &mut Measured, b: &Builder, name: &str) {
     let mut args = vec![t.as_ptr() as u64, t.len() as u64, 2, 0, 0, code.as_mut_ptr() as u64, code.len() as u64,
         kinds.as_mut_ptr() as u64, n as u64, payloads.as_mut_ptr() as u64, n as u64];
     let plain: Vec<u64> = args.iter().copied().chain((0..4).map(|i| base + 8 * i)).collect();
-    let (number, bytes) = s.call(compile, &plain);
+    let (number, whole) = s.call(compile, &plain);
     assert!(number == 0);
-    if n <= 64 { &mut m.small } else { &mut m.large }.meet(bytes, name);
     let jumps = made.jumps.as_mut().unwrap().part_mut();
     args.extend([jumps.as_mut_ptr() as u64, n as u64, base, base + 8, base + 16, base + 24]);
-    let (number, bytes) = s.call(compile_with, &args);
+    let (number, with) = s.call(compile_with, &args);
     assert!(number == 0);
-    m.with.meet(bytes, name);
     let (words, frame) = (results[0], results[3] as usize);
-    let nan = f64::NAN.to_bits();
-    for (kind, payload) in [(1, 0), (1, 1), (2, 3), (2, 1 << 54), (3, FLOATS[7]), (3, nan)] {
+    let mut out = [whole, with, 0, 0];
+    for (kind, payload) in locals {
         let (mut ks, mut ps) = (vec![0u8; frame.max(2)], vec![0u64; frame.max(2)]);
-        (ks[0], ps[0], ks[1], ps[1]) = (kind, payload, kind, payload);
+        (ks[0], ps[0], ks[1], ps[1]) = (*kind, *payload, *kind, *payload);
         let lent = [ks.as_mut_ptr() as u64, ks.len() as u64, ps.as_mut_ptr() as u64, ps.len() as u64];
         let args = [t.as_ptr() as u64, t.len() as u64, 2, 0, lent[0], lent[1], lent[2], lent[3], base, base + 8];
-        m.evaluate.meet(s.call(evaluate, &args).1, name);
+        out[2] = out[2].max(s.call(evaluate, &args).1);
         let args = [code.as_ptr() as u64, words, 0, lent[0], lent[1], lent[2], lent[3], kinds.as_ptr() as u64, n as u64, payloads.as_ptr() as u64, n as u64, 99_999, base, base + 8];
-        m.run.meet(s.call(run, &args).1, name);
+        out[3] = out[3].max(s.call(run, &args).1);
+    }
+    out
+}
+
+/// A level of a chain: a kind, and the place of the deeper child.
+type Level = (u64, usize);
+
+/// Levels `a` and `b`: in turn, many a over one b, one a over many b.
+fn level(pattern: usize, a: Level, b: Level, i: usize, of: usize) -> Level {
+    let first = match pattern { 0 => i % 2 == 0, 1 => i + 1 < of, _ => i == 0 };
+    if first { a } else { b }
+}
+
+fn levels() -> Vec<Level> { (MINUS..=TERNARY).flat_map(|k| (0..arity(k).unwrap()).map(move |p| (k, p))).collect() }
+
+/// How long a chain may be: so many levels, and so many nodes.
+#[derive(Clone, Copy)]
+struct Limit { depth: usize, nodes: usize }
+
+impl Limit {
+    /// The longest chain of a rule for its levels.
+    fn chain(&self, at: impl Fn(usize, usize) -> Level) -> Vec<Level> {
+        let chain = |of: usize| (0..of).map(|i| at(i, of)).collect::<Vec<_>>();
+        let fits = |c: &Vec<Level>| c.iter().map(|l| arity(l.0).unwrap()).sum::<usize>() < self.nodes;
+        (0..self.depth).rev().map(chain).find(fits).unwrap()
     }
 }
 
-fn measure(depth: u64, random: u64) -> Measured {
-    let (mut s, mut r) = (Stack::new(), Rng(depth));
-    let mut m = Measured { with: Most::new(), small: Most::new(), large: Most::new(), evaluate: Most::new(), run: Most::new() };
-    for kind in MINUS..=TERNARY {
-        for place in 0..arity(kind).unwrap() {
-            for leaf in LEAVES { table(&mut s, &mut m, &shapes::chain(kind, place, depth, leaf), &format!("kind {kind}, place {place}")) }
+/// The most over chains of one kind on every leaf, of two kinds in each of the
+/// three patterns, and of one to three kinds mixed at random.
+fn measure(s: &mut Stack, limit: Limit, random: u64, nodes: &mut ByNodes) -> Most {
+    let (mut m, mut r) = (Most::default(), Rng(limit.depth as u64));
+    let mut table = |s: &mut Stack, chain: &[Level], leaf, locals: &[(u8, u64)], name: &str| {
+        let b = shapes::links(chain, leaf);
+        let bytes = taken(s, &b, locals);
+        m.meet(bytes, name);
+        nodes.meet(b.words.len() / 4, bytes, name);
+    };
+    for a in levels() {
+        for leaf in LEAVES { table(s, &limit.chain(|_, _| a), leaf, &LOCALS, &format!("{a:?}")) }
+        for b in levels().into_iter().filter(|b| *b != a) {
+            for (pattern, name) in ["in turn", "over one", "once over"].iter().enumerate() {
+                table(s, &limit.chain(|i, of| level(pattern, a, b, i, of)), LEAVES[0], &[], &format!("{a:?} {b:?} {name}"))
+            }
         }
     }
     for _ in 0..random {
         let few: Vec<u64> = (0..1 + r.below(3)).map(|_| MINUS + r.below(21)).collect();
-        let links: Vec<(u64, usize)> = (1..depth).map(|_| { let k = r.pick(&few); (k, r.below(arity(k).unwrap() as u64) as usize) }).collect();
-        let leaf = r.pick(&LEAVES);
-        table(&mut s, &mut m, &shapes::links(&links, leaf), &format!("kinds {few:?}, mixed"));
+        let mixed: Vec<Level> = (0..limit.depth).map(|_| { let k = r.pick(&few); (k, r.below(arity(k).unwrap() as u64) as usize) }).collect();
+        let (leaf, local) = (r.pick(&LEAVES), r.pick(&LOCALS));
+        table(s, &limit.chain(|i, _| mixed[i]), leaf, &[local], &format!("kinds {few:?}, mixed"));
     }
-    // many nodes, which bring the large jump list
-    if depth == 64 { for kind in [OR, LT, TERNARY] { table(&mut s, &mut m, &shapes::full(kind, MAX_NODES), &format!("kind {kind}, 4,096 nodes")) } }
     m
+}
+
+/// docs/STACK.md's bound by the number of nodes, held to every table that is measured.
+struct ByNodes { over: Vec<String> }
+
+/// For each of `NAMES`: bytes whatever the table, and bytes a node.
+const TOLD: [(usize, usize); 4] = [(17_920, 480), (1_024, 480), (256, 240), (1_024, 0)];
+
+impl ByNodes {
+    fn bound(n: usize) -> Taken { TOLD.map(|(all, each)| all + each * n) }
+    fn meet(&mut self, n: usize, bytes: Taken, what: &str) {
+        for (i, (b, most)) in bytes.into_iter().zip(Self::bound(n)).enumerate() {
+            if b > most { self.over.push(format!("{}: {n} nodes, {what}: {b} bytes, and {most} are told", NAMES[i])) }
+        }
+    }
 }
 
 /// A function of the linked program: its greatest depth of stack, the return
@@ -172,15 +225,22 @@ fn frames() {
     }
     reached.sort_by_key(|n| all.get(n).map_or(0, |f| -f.most));
     for n in reached { if let Some(f) = all.get(&n) { println!("{:6} {n}", f.most) } }
-    for r in roots {
-        match deepest(&all, &r, &mut vec![]) {
-            Some((bytes, way)) => println!("{r}: no recursion, {bytes} bytes at most: {}", way.join(" > ")),
+    let mut over = 0;
+    for r in &roots {
+        let most = match deepest(&all, r, &mut vec![]) {
+            Some((bytes, way)) => { println!("{r}: no recursion, {bytes} bytes at most: {}", way.join(" > ")); bytes }
             None => {
-                let (before, level, below, cycle) = recursion(&all, &r);
-                println!("{r}: {before} before and {below} below the recursion, {level} a level ({}): {} bytes at most at depth {MAX_DEPTH}", cycle.join(" + "), before + MAX_DEPTH as i64 * level + below);
+                let (before, level, below, cycle) = recursion(&all, r);
+                let bytes = before + MAX_DEPTH as i64 * level + below;
+                println!("{r}: {before} before and {below} below the recursion, {level} a level ({}): {bytes} bytes at most at depth {MAX_DEPTH}", cycle.join(" + "));
+                bytes
             }
-        }
+        };
+        // what is not named reserves as much as a run
+        let told = RESERVE[NAMES.iter().position(|n| *r == format!("vosemaqe_{n}")).unwrap_or(3)];
+        if most > told as i64 { println!("{r}: more than the {told} that a caller reserves"); over += 1 }
     }
+    runner::finish(format!("frames: {} functions, {over} over what docs/STACK.md tells a caller", roots.len()), over)
 }
 
 /// For a function that recurses: the bytes before the first of the functions
@@ -210,22 +270,32 @@ fn before(all: &BTreeMap<String, Frame>, f: &str, cycle: &[String]) -> Option<i6
     all.get(f)?.calls.iter().filter_map(|(to, at)| Some(at + before(all, to, cycle)?)).max()
 }
 
-/// What docs/STACK.md tells a caller to reserve, in the order of the rows.
-const RESERVE: [usize; 5] = [64 << 10, 64 << 10, 48 << 10, 16 << 10, 1 << 10];
+/// What docs/STACK.md tells a caller to reserve, in the order of `NAMES`.
+const RESERVE: Taken = [64 << 10, 48 << 10, 16 << 10, 1 << 10];
 
 fn main() {
     if std::env::args().nth(1).as_deref() == Some("frames") { return frames() }
     let [random] = runner::numbers([3_000]);
-    let depths = [1, 16, 64];
-    let all: Vec<Measured> = depths.iter().map(|d| measure(*d, random)).collect();
-    let rows: [(&str, fn(&Measured) -> &Most); 5] = [
-        ("compile", |m| if m.large.bytes > m.small.bytes { &m.large } else { &m.small }), ("compile, up to 64 nodes", |m| &m.small), ("compile_with", |m| &m.with), ("evaluate", |m| &m.evaluate), ("run", |m| &m.run)];
-    println!("{:<26} {:>8} {:>8} {:>8} {:>8}  the chain that takes most at depth 64", "bytes at depth", depths[0], depths[1], depths[2], "a level");
-    let mut over = 0;
-    for (i, (name, of)) in rows.into_iter().enumerate() {
-        let b: Vec<f64> = all.iter().map(|m| of(m).bytes as f64).collect();
-        println!("{name:<26} {:>8} {:>8} {:>8} {:>8.0}  {}", b[0], b[1], b[2], if i == 1 { (b[1] - b[0]) / 15.0 } else { (b[2] - b[1]) / 48.0 }, of(&all[2]).what);
-        if of(&all[2]).bytes > RESERVE[i] { println!("{name}: more than the {} that a caller reserves", RESERVE[i]); over += 1 }
+    let (mut s, mut nodes) = (Stack::new(), ByNodes { over: vec![] });
+    let mut rows: Vec<(String, Most)> = vec![];
+    for n in [1, 2, 4, 8, 16, 32, 64] {
+        rows.push((format!("{n} nodes"), measure(&mut s, Limit { depth: 64, nodes: n }, random, &mut nodes)));
     }
-    runner::finish(format!("stack: {over} over what a caller reserves"), over)
+    for depth in [16, 64] {
+        rows.push((format!("depth {depth}"), measure(&mut s, Limit { depth, nodes: MAX_NODES }, random, &mut nodes)));
+    }
+    // many nodes, which bring the large jump list
+    let most = &mut rows.last_mut().unwrap().1;
+    for kind in [OR, LT, TERNARY] { most.meet(taken(&mut s, &shapes::full(kind, MAX_NODES), &LOCALS), &format!("kind {kind}, 4,096 nodes")) }
+    println!("the most for each row, and the chain that takes it; a level is (kind, place of the deeper child)");
+    println!("{:<10} {}", "bytes", NAMES.map(|n| format!("{n:>13}")).join(""));
+    for (name, most) in &rows {
+        println!("{name:<10} {}", most.0.iter().map(|m| format!("{:>13}", m.0)).collect::<String>());
+        for (i, m) in most.0.iter().enumerate() { println!("  {:<13} {}", NAMES[i], m.1) }
+    }
+    for (i, (bytes, _)) in rows.last().unwrap().1 .0.iter().enumerate() {
+        if *bytes > RESERVE[i] { nodes.over.push(format!("{}: more than the {} that a caller reserves", NAMES[i], RESERVE[i])) }
+    }
+    for o in nodes.over.iter().take(20) { println!("{o}") }
+    runner::finish(format!("stack: {} over what docs/STACK.md tells a caller", nodes.over.len()), nodes.over.len())
 }

@@ -34,18 +34,63 @@ pub fn rewrite(c: &Compiled, seen: &mut Vec<&'static str>) -> Option<Compiled> {
 }
 
 /// Whether the list of differences makes the published answer to a job the
-/// other one, to the last bit.
-pub fn explained(job: &Job, published: &Result<Compiled, Refused>, other: &Result<Compiled, Refused>, seen: &mut Vec<&'static str>) -> bool {
-    match (published, other) {
-        (Ok(a), Ok(b)) => rewrite(a, seen).as_ref() == Some(b),
-        (Err(x), Err(y)) if x == y => true,
-        // the published mode asks for fewer slots, and then fails later or not at all
-        (_, Err(Refused(6))) if job.table.chunks(4).any(|n| n[0] == FLOAT && in_immediate(n[1])) => {
+/// house answer, to the last bit.
+pub fn explained(h: &mut house::Oracle, job: &Job, published: &Result<Compiled, Refused>, house: &Result<Compiled, Refused>, seen: &mut Vec<&'static str>) -> bool {
+    if let (Ok(a), Ok(b)) = (published, house) { return rewrite(a, seen).as_ref() == Some(b) }
+    let Some(fewer) = fewer_slots(job) else { return matches!((published, house), (Err(x), Err(y)) if x == y) };
+    // the published mode asks for fewer slots: where house gives 6 it goes on, and gives what house gives with those slots not asked for
+    match (published, h.compile(&fewer)) {
+        (Err(x), Err(y)) => {
+            if Err(y) != *house { seen.push("Float in load_imm40 (slots run out)") }
+            *x == y && (Err(y) == *house || *house == Err(Refused(6)))
+        }
+        (Ok(a), Ok(_)) => {
             seen.push("Float in load_imm40 (slots run out)");
-            true
+            *house == Err(Refused(6)) && rewrite(a, seen) == h.compile(&Job { max_slots: usize::MAX, ..job.clone() }).ok()
         }
         _ => false,
     }
+}
+
+/// The job with a Nil for each Float that the published mode puts in
+/// load_imm40: like it a Nil takes a register and a word, no slot, and no part
+/// in a fold. None where the table has no such Float.
+fn fewer_slots(job: &Job) -> Option<Job> {
+    let mut fewer = job.clone();
+    let mut any = false;
+    for n in fewer.table.chunks_exact_mut(4).filter(|n| n[0] == FLOAT && in_immediate(n[1])) { (n[0], n[1], any) = (NIL, 0, true) }
+    any.then_some(fewer)
+}
+
+/// The house answer to a job whose jump list is lent, with so many places.
+/// The Rust has no such list, so its answer holds until a jump finds no place.
+pub fn with_list(h: &mut house::Oracle, job: &Job, places: usize) -> Result<Compiled, Refused> {
+    let answer = h.compile(job);
+    if check(&job.table, job.params, job.locals, job.dst) != 0 { return answer }
+    let Some(jump) = jumps::taken(&job.table).iter().position(|n| *n > places) else { return answer };
+    if let Err(Refused(5 | 6)) = answer {
+        // words that stood when the Rust refused, and when the jump is asked for: a register and a slot are asked for before the word
+        let stood = h.actor.insns.len();
+        if branch_at(h, job, jump) >= stood { return answer }
+    }
+    Err(Refused(7))
+}
+
+/// The position of a conditional branch, counted from 0, where there is room
+/// for all. Few registers give the same words but for their numbers, as long
+/// as a Ref is the destination where it was.
+fn branch_at(h: &mut house::Oracle, job: &Job, which: usize) -> usize {
+    let job = Job { params: 2, locals: 0, dst: job.dst.map(|_| 0), max_words: usize::MAX, max_slots: usize::MAX, table: rename(&job.table, job.dst) };
+    let c = h.compile(&job).expect("a checked table with room for all");
+    let conditional = |w: &u64| { let (op, _) = unpack(*w, false).unwrap(); OPCODES[op].0 != "jmp" && OPCODES[op].1.last().is_some_and(|f| f.is_disp()) };
+    c.words.iter().enumerate().filter(|(_, w)| conditional(w)).nth(which).expect("a jump of the table").0
+}
+
+/// Each Ref to the destination is a Ref to register 0, every other to 1.
+fn rename(table: &[u64], dst: Option<u64>) -> Vec<u64> {
+    let mut t = table.to_vec();
+    for n in t.chunks_exact_mut(4).filter(|n| n[0] == REF) { n[1] = (Some(n[1]) != dst) as u64 }
+    t
 }
 
 fn slot(consts: &mut Vec<(u8, u64)>, pair: (u8, u64)) -> i64 {

@@ -1,6 +1,7 @@
 //! Node tables of document 01: the words, the check (refusals 1 to 5), a
 //! builder. No dependency on the given Rust, so both oracles use it.
 pub mod gen;
+pub mod jumps;
 pub mod meaning;
 pub mod opcodes;
 pub mod small;

@@ -1,4 +1,4 @@
--- `cut::if_raw` meets its contract: the test is `is_raw`, which says what the definition asks. Assumes nothing.
+-- `cut::if_raw` meets its contract: the test is `is_raw`, which says what the definition asks.
 use borrow.Author.Needs.{needs}
 use Rattle.decode.proofs.Table.{raw-so, raw-not}
 use Rattle.decode.proofs.cut.if_raw.Statement.{statement}

@@ -1,4 +1,4 @@
--- `cut::if_whole` meets its contract: the test is the definition's own. Assumes nothing.
+-- `cut::if_whole` meets its contract: the test is the definition's own.
 use Rattle.faults.proofs.Faults.{tests}
 use Rattle.decode.specs.Decode.{whole}
 use Rattle.decode.proofs.cut.if_whole.Statement.{statement}

@@ -1,4 +1,4 @@
--- `cut::signed_of` meets its contract. Assumes nothing.
+-- `cut::signed_of` meets its contract.
 use borrow.Author.Needs.{needs}
 use Rattle.decode.proofs.Sign.{read-low, read-high}
 use Rattle.decode.proofs.cut.signed_of.Statement.{statement}

@@ -1,4 +1,4 @@
--- `form` meets its contract: in an arm the opcode is the arm's number, and past the arms it is past the table. Assumes nothing.
+-- `form` meets its contract: in an arm the opcode is the arm's number, and past the arms it is past the table.
 use mathlib.Core.Path.{sym, ap}
 use Rattle.insns.specs.Insns.{formAt}
 use Rattle.insns.proofs.Table.{past}

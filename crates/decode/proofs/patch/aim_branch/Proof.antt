@@ -1,4 +1,4 @@
--- `patch::aim_branch` meets its contract: each opcode's field, and what may stand above it. Assumes nothing.
+-- `patch::aim_branch` meets its contract: each opcode's field, and what may stand above it.
 use borrow.Author.Needs.{needs}
 use Rattle.decode.proofs.patch.Field.{opcodes}
 use Rattle.decode.proofs.patch.aim_branch.Statement.{statement}
@@ -9,13 +9,11 @@ aim-branch-spec =
     tie.close
     (tie.spec
     (λ c. search needs)
-    (λ c. search needs)
     (λ c κs. search needs)
     (λ c. search opcodes)
     (λ c. search opcodes)
     (λ c κs. search needs)
     (λ c. search opcodes)
-    (λ c. search needs)
     (λ c κs. search needs)
     (λ c. search opcodes)
     (λ c. search opcodes))

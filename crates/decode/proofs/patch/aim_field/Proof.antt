@@ -1,4 +1,4 @@
--- `patch::aim_field` meets its contract: the field's number, or one past it. Assumes nothing.
+-- `patch::aim_field` meets its contract: the field's number, or one past it.
 use borrow.Author.Needs.{needs}
 use Rattle.insns.proofs.bits.Sign.{widens}
 use Rattle.decode.proofs.patch.Field.{sum-fits, product-fits, numbers}

@@ -1,4 +1,4 @@
--- `patch::aim_word` meets its contract: an opcode below or above the branches' is none. Assumes nothing.
+-- `patch::aim_word` meets its contract: an opcode below or above the branches' is none.
 use borrow.Author.Needs.{needs}
 use Rattle.decode.proofs.patch.Field.{opcodes}
 use Rattle.decode.proofs.patch.aim_word.Statement.{statement}

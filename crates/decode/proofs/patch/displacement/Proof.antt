@@ -1,4 +1,4 @@
--- `patch::displacement` meets its contract: below 2^62 the difference fits 64 bits, and 32 bits where its magnitude is below 2^31. Assumes nothing.
+-- `patch::displacement` meets its contract: below 2^62 the difference fits 64 bits, and 32 bits where its magnitude is below 2^31.
 use borrow.Author.Needs.{needs}
 use Rattle.decode.proofs.patch.Aim.{displacements}
 use Rattle.decode.proofs.patch.displacement.Statement.{statement}

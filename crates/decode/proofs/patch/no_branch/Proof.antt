@@ -1,4 +1,4 @@
--- `patch::no_branch` meets its contract: each arm knows what the word decodes to. Assumes nothing.
+-- `patch::no_branch` meets its contract: each arm knows what the word decodes to.
 use borrow.Author.Needs.{needs}
 use Rattle.decode.proofs.patch.Field.{unaimings}
 use Rattle.decode.proofs.patch.no_branch.Statement.{statement}

@@ -1,4 +1,4 @@
--- `patch::patch` meets its contract: no word, or one that is aimed. Assumes nothing.
+-- `patch::patch` meets its contract: no word, or one that is aimed.
 use mathlib.Core.Path.{ap}
 use denote.Ref.{now}
 use Rattle.decode.specs.Patch.{Patching}

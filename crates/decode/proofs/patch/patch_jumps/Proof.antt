@@ -1,4 +1,4 @@
--- `patch::patch_jumps` meets its contract: what is left to do gives, from the words as they stand, what the whole list gives from the first words. Assumes nothing.
+-- `patch::patch_jumps` meets its contract: what is left to do gives, from the words as they stand, what the whole list gives from the first words.
 use mathlib.Core.Path.{_≡_, refl, sym, ap, _∙_}
 use mathlib.Core.Bool.{true, false}
 use Prim.Native.Nat.{_≤_, _-_}

@@ -1,4 +1,4 @@
--- `alone` meets its contract: each arm knows the rule. Assumes nothing.
+-- `alone` meets its contract: each arm knows the rule.
 use borrow.Author.Needs.{needs}
 use Rattle.eval.proofs.apply.Laws.{rules}
 use Rattle.eval.proofs.apply.alone.Statement.{statement}

@@ -1,4 +1,4 @@
--- `leaf` meets its contract: each arm is the entry of its kind, and the last kind is 5. Assumes nothing.
+-- `leaf` meets its contract: each arm is the entry of its kind, and the last kind is 5.
 use borrow.Author.Needs.{needs}
 use Rattle.eval.proofs.apply.Laws.{entries}
 use Rattle.eval.proofs.apply.leaf.Statement.{statement}

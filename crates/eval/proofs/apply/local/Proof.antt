@@ -1,4 +1,4 @@
--- `local` meets its contract: the pairs are values, so the pair at p is the value at p. Assumes nothing.
+-- `local` meets its contract: the pairs are values, so the pair at p is the value at p.
 use borrow.Author.Needs.{needs}
 use Rattle.eval.proofs.apply.Laws.{locals}
 use Rattle.eval.proofs.apply.local.Statement.{statement}

@@ -1,4 +1,4 @@
--- `pair` meets its contract: the pair as `from_pair` reads it. Assumes nothing.
+-- `pair` meets its contract: the pair as `from_pair` reads it.
 use borrow.Author.Needs.{needs}
 use Rattle.eval.proofs.apply.Laws.{pairs}
 use Rattle.eval.proofs.apply.pair.Statement.{statement}

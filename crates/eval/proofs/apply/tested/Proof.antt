@@ -1,4 +1,4 @@
--- `tested` meets its contract: a choice between True and False is made by the truth. Assumes nothing.
+-- `tested` meets its contract: a choice between True and False is made by the truth.
 use borrow.Author.Needs.{needs}
 use Rattle.eval.proofs.apply.Laws.{truths}
 use Rattle.eval.proofs.apply.tested.Statement.{statement}

@@ -1,4 +1,4 @@
--- `unary` meets its contract: a fault returns, and then the operator of the kind. Assumes nothing.
+-- `unary` meets its contract: a fault returns, and then the operator of the kind.
 use borrow.Author.Needs.{needs}
 use Rattle.eval.proofs.apply.Laws.{operates}
 use Rattle.eval.proofs.apply.unary.Statement.{statement}

@@ -1,4 +1,4 @@
--- `first` meets its contract: each arm knows the rule, and a node of that rule has the child. Assumes nothing.
+-- `first` meets its contract: each arm knows the rule, and a node of that rule has the child.
 use borrow.Author.Needs.{needs}
 use Rattle.eval.proofs.next.Laws.{rules}
 use Rattle.eval.proofs.next.first.Statement.{statement}

@@ -1,4 +1,4 @@
--- `next_of` meets its contract: each arm knows the rule, and its children stand where the table has them. Assumes nothing.
+-- `next_of` meets its contract: each arm knows the rule, and its children stand where the table has them.
 use borrow.Author.Needs.{needs}
 use Rattle.eval.proofs.next.Laws.{rules}
 use Rattle.eval.proofs.next.next_of.Statement.{statement}

@@ -1,4 +1,4 @@
--- `rule_of` meets its contract: a chain of tests. Assumes nothing.
+-- `rule_of` meets its contract: a chain of tests.
 use Rattle.faults.proofs.Faults.{tests}
 use Rattle.eval.proofs.next.rule_of.Statement.{statement}
 use Rattle.eval.proofs.next.rule_of.Tie as tie

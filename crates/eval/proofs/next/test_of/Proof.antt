@@ -1,4 +1,4 @@
--- `test_of` meets its contract: a value, or a fault. Assumes nothing.
+-- `test_of` meets its contract: a value, or a fault.
 use borrow.Author.Needs.{needs}
 use Rattle.eval.proofs.next.Laws.{truths}
 use Rattle.eval.proofs.next.test_of.Statement.{statement}

@@ -1,4 +1,4 @@
--- `truth_of` meets its contract: each arm knows the kind of the value. Assumes nothing.
+-- `truth_of` meets its contract: each arm knows the kind of the value.
 use borrow.Author.Needs.{needs}
 use Rattle.eval.proofs.next.Laws.{truths}
 use Rattle.eval.proofs.next.truth_of.Statement.{statement}

@@ -1,4 +1,4 @@
--- `number` meets its contract: every NaN pattern reads as the one NaN, which 0 / 0 is. Assumes nothing.
+-- `number` meets its contract: every NaN pattern reads as the one NaN, which 0 / 0 is.
 use mathlib.Core.Path.{_≡_, refl, sym, _∙_, subst}
 use mathlib.Core.Bool.{Bool, true, not}
 use lib.Dec.{T}
@@ -7,12 +7,6 @@ use lib.Ieee.Bits.{nanBits-is, nanBits-above}
 use borrow.Author.Needs.{needs}
 use Rattle.float.proofs.bits.number.Statement.{statement}
 use Rattle.float.proofs.bits.number.Tie as tie
-
-is-nan-requires : tie.Need-is-nan-requires
-is-nan-requires c κs = search needs
-
-float-from-bits-result : tie.Need-float-from-bits-result
-float-from-bits-result c = subst (λ (b : Bool). T (not b)) (sym (nanBits-above binary64 (c .before .before .args .p) ∙ sym (c .before .is-nan .ensures) ∙ c .if1 .left)) tt
 
 nan-of : (x : Float) → isNan x ≡ true → x ≡ nan
 unfolding isNan
@@ -26,8 +20,11 @@ returns c =
     let p = c .before .before .args .p in
     sym (nan-of (ofBits binary64 p) (sym (nanBits-is binary64 p) ∙ nanBits-above binary64 p ∙ sym (c .before .is-nan .ensures) ∙ c .if1 .taken))
 
-returns-2 : tie.Need-returns-2
-returns-2 c = search needs
-
 pub number-spec : {M : Type 1} → statement M
-number-spec = tie.close (tie.spec is-nan-requires float-from-bits-result returns returns-2)
+number-spec =
+    tie.close
+    (tie.spec
+    (λ c κs. search needs)
+    (λ c. subst (λ (b : Bool). T (not b)) (sym (nanBits-above binary64 (c .before .before .args .p) ∙ sym (c .before .is-nan .ensures) ∙ c .if1 .left)) tt)
+    returns
+    (λ c. search needs))

@@ -1,4 +1,4 @@
--- `pattern` meets its contract: only a NaN differs from itself, and the kit writes the same NaN. Assumes nothing.
+-- `pattern` meets its contract: only a NaN differs from itself, and the kit writes the same NaN.
 use mathlib.Core.Path.{_≡_, sym, ap, subst}
 use mathlib.Core.Bool.{false, not}
 use lib.Dec.{T}
@@ -14,15 +14,11 @@ no-nan nan h = subst T h tt
 no-nan (inf s) h = tt
 no-nan (fin s m e) h = tt
 
-float-to-bits-result : tie.Need-float-to-bits-result
-float-to-bits-result c = no-nan (c .before .args .x) (c .if1 .left)
-
-returns : tie.Need-returns
-unfolding toBits
-returns c = sym (ap (toBits binary64) (differs-from-itself (c .before .args .x) (subst T (sym (c .if1 .taken)) tt)))
-
-returns-2 : tie.Need-returns-2
-returns-2 c = search needs
-
 pub pattern-spec : {M : Type 1} → statement M
-pattern-spec = tie.close (tie.spec float-to-bits-result returns returns-2)
+unfolding toBits
+pattern-spec =
+    tie.close
+    (tie.spec
+    (λ c. no-nan (c .before .args .x) (c .if1 .left))
+    (λ c. sym (ap (toBits binary64) (differs-from-itself (c .before .args .x) (subst T (sym (c .if1 .taken)) tt))))
+    (λ c. search needs))

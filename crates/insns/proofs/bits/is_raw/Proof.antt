@@ -1,4 +1,4 @@
--- `is_raw` meets its contract. Assumes nothing.
+-- `is_raw` meets its contract.
 use mathlib.Core.Path.{_≡_}
 use Prim.Native.Nat.{ℕ, _%_}
 use lib.Dec.{eqb}

@@ -1,4 +1,4 @@
--- `magnitude` meets its contract. Assumes nothing.
+-- `magnitude` meets its contract.
 use Rattle.insns.proofs.bits.Sign.{neg-test, flipped, kept}
 use Rattle.insns.proofs.bits.magnitude.Statement.{statement}
 use Rattle.insns.proofs.bits.magnitude.Tie as tie

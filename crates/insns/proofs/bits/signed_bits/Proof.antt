@@ -1,4 +1,4 @@
--- `signed_bits` meets its contract. Assumes nothing.
+-- `signed_bits` meets its contract.
 use mathlib.Core.Path.{_≡_, sym, ap, _∙_}
 use Prim.Native.Nat.{_≤_, _<_}
 use borrow.Author.Needs.{needs}

@@ -1,4 +1,4 @@
--- `encode::encode` meets its contract: each arm knows which instruction i is, and hands on what the packing of its fields ensures. Assumes nothing.
+-- `encode::encode` meets its contract: each arm knows which instruction i is, and hands on what the packing of its fields ensures.
 use mathlib.Core.Path.{_≡_}
 use mir.Syntax.{w16, w32, w64}
 use mir.Val.{toZ, ofZ}

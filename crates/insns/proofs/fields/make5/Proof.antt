@@ -1,5 +1,4 @@
 -- `fields::make5` meets its contract: a test that fails says which field is too small, and where none fails the packed fields stay below 2 ^ 56.
--- Assumes nothing.
 use native.Mathlib.Omega.{arith}
 use native.Mathlib.Nat.{mul-zero, add-zero}
 use borrow.Author.Tests.{le-ltb, lt-ltb}

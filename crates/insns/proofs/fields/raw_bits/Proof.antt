@@ -1,4 +1,4 @@
--- `fields::raw_bits` meets its contract. Assumes nothing.
+-- `fields::raw_bits` meets its contract.
 use mathlib.Core.Path.{_≡_, sym, ap, _∙_}
 use mathlib.Core.Bool.{true, false}
 use borrow.Author.Needs.{needs}

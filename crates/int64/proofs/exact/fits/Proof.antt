@@ -1,23 +1,8 @@
--- `fits` meets its contract: each test is that the exact result lies in the range. Assumes nothing.
+-- `fits` meets its contract: each test is that the exact result lies in the range.
 use Rattle.int64.proofs.exact.Laws.{places}
 use borrow.Author.Needs.{needs}
 use Rattle.int64.proofs.exact.fits.Statement.{statement}
 use Rattle.int64.proofs.exact.fits.Tie as tie
-
-returns : tie.Need-returns
-returns c = search places
-
-returns-2 : tie.Need-returns-2
-returns-2 c = search places
-
-returns-3 : tie.Need-returns-3
-returns-3 c = search places
-
-returns-4 : tie.Need-returns-4
-returns-4 c = search places
-
-returns-5 : tie.Need-returns-5
-returns-5 c = search places
 
 pub fits-spec : {M : Type 1} → statement M
 fits-spec =
@@ -36,8 +21,8 @@ fits-spec =
     (λ c κs. search needs)
     (λ c κs. search needs)
     (λ c κs. search needs)
-    returns
-    returns-2
-    returns-3
-    returns-4
-    returns-5)
+    (λ c. search places)
+    (λ c. search places)
+    (λ c. search places)
+    (λ c. search places)
+    (λ c. search places))

@@ -1,4 +1,4 @@
--- `mask` meets its contract: by where the ones end. Assumes nothing.
+-- `mask` meets its contract: by where the ones end.
 use mathlib.Core.Path.{_≡_, sym, ap, _∙_}
 use Prim.Native.Nat.{ℕ, _+_, _-_, _*_, _%_, _^_, _≤_}
 use native.Mathlib.Nat.{mul-comm, mul-assoc, mul-add, mul-mod-right, add-mul-mod-self-right}
@@ -27,29 +27,15 @@ full lo len h =
     = ap (λ (n : ℕ). 2 ^ lo * n) e ∙ mul-add (2 ^ lo) (2 ^ 64 - 1) ((q - 1) * 2 ^ 64) ∙ omega (arith, mul-assoc (2 ^ lo) (q - 1) (2 ^ 64)) in
     ap (λ (n : ℕ). n % 2 ^ 64) f ∙ add-mul-mod-self-right ((2 ^ 64 - 1) * 2 ^ lo) (2 ^ lo * (q - 1)) (2 ^ 64)
 
-returns : tie.Need-returns
-unfolding maskOf
-returns c = sym (past (c .before .args .lo) (c .before .args .len) (c .if1 .taken))
-
-shl-result : tie.Need-shl-result
-shl-result c = search needs
-
-returns-2 : tie.Need-returns-2
-unfolding maskOf
-returns-2 c = sym (full (c .before .before .args .lo) (c .before .before .args .len) (c .if2 .taken))
-
-shl-result-2 : tie.Need-shl-result-2
-shl-result-2 c = search needs
-
-sub-result : tie.Need-sub-result
-sub-result c = rw (one-shifted (c .before .before .args .len) (c .if2 .left)) (pow-pos (c .before .before .args .len))
-
-shl-result-3 : tie.Need-shl-result-3
-shl-result-3 c = search needs
-
-returns-3 : tie.Need-returns-3
-unfolding maskOf
-returns-3 c = rw (one-shifted (c .before .before .args .len) (c .if2 .left)) (ap (λ (n : ℕ). n % 2 ^ 64) (mul-comm (2 ^ c .before .before .args .len - 1) (2 ^ c .before .before .args .lo)))
-
 pub mask-spec : {M : Type 1} → statement M
-mask-spec = tie.close (tie.spec returns shl-result returns-2 shl-result-2 sub-result shl-result-3 returns-3)
+unfolding maskOf
+mask-spec =
+    tie.close
+    (tie.spec
+    (λ c. sym (past (c .before .args .lo) (c .before .args .len) (c .if1 .taken)))
+    (λ c. search needs)
+    (λ c. sym (full (c .before .before .args .lo) (c .before .before .args .len) (c .if2 .taken)))
+    (λ c. search needs)
+    (λ c. rw (one-shifted (c .before .before .args .len) (c .if2 .left)) (pow-pos (c .before .before .args .len)))
+    (λ c. search needs)
+    (λ c. rw (one-shifted (c .before .before .args .len) (c .if2 .left)) (ap (λ (n : ℕ). n % 2 ^ 64) (mul-comm (2 ^ c .before .before .args .len - 1) (2 ^ c .before .before .args .lo)))))

@@ -1,4 +1,4 @@
--- `step::branch` meets its contract: by the answer. Assumes nothing.
+-- `step::branch` meets its contract: by the answer.
 use borrow.Author.Needs.{needs}
 use Rattle.machine.proofs.StepLaws.{steps}
 use Rattle.machine.proofs.step.branch.Statement.{statement}

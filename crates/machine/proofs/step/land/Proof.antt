@@ -1,4 +1,4 @@
--- `step::land` meets its contract: by the sign of the displacement. Assumes nothing.
+-- `step::land` meets its contract: by the sign of the displacement.
 use borrow.Author.Needs.{needs}
 use Rattle.machine.proofs.StepLaws.{steps}
 use Rattle.machine.proofs.step.land.Statement.{statement}

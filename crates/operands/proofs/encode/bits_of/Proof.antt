@@ -1,10 +1,10 @@
--- `bits_of` is the bits of an operand in its field. Assumes nothing.
+-- `bits_of` is the bits of an operand in its field.
 use borrow.Author.Needs.{needs}
-use Rattle.operands.proofs.encode.Laws.{half-at, bits-twos, bits-raw}
+use Rattle.operands.proofs.encode.Laws.{half-at, bits-signed, bits-raw}
 use Rattle.operands.proofs.encode.bits_of.Statement.{statement}
 use Rattle.operands.proofs.encode.bits_of.Tie as tie
 
-ruleset laws = (half-at, bits-twos, bits-raw, needs)
+ruleset laws = (half-at, bits-signed, bits-raw, needs)
 
 pub bits-of-spec : {M : Type 1} → statement M
 bits-of-spec =

@@ -1,5 +1,6 @@
--- `encode` meets its contract: the fields of the form are narrow and have room in a word, and packing makes the word. Assumes nothing.
+-- `encode` meets its contract: the fields of the form are narrow and have room in a word, and packing makes the word.
 use borrow.Author.Needs.{needs}
+use native.Mathlib.Omega.{arith}
 use Rattle.operands.proofs.encode.Laws.{fit, room-by, encode-by, encode-past}
 use Rattle.operands.proofs.encode.encode.Statement.{statement}
 use Rattle.operands.proofs.encode.encode.Tie as tie
@@ -23,4 +24,4 @@ encode-spec =
     (λ c κs. fit (c .before .before .before .before .before .before .before .before .before .form .result) (c .before .before .before .before .before .before .before .before .shapes-of .ensures) .e)
     (λ c κs. fit (c .before .before .before .before .before .before .before .before .before .before .form .result) (c .before .before .before .before .before .before .before .before .before .shapes-of .ensures) .e)
     (λ c κs. room-by (c .before .before .before .before .before .before .before .before .before .size-of .ensures) (c .before .before .before .before .before .before .before .size-of2 .ensures) (c .before .before .before .before .before .size-of3 .ensures) (c .before .before .before .size-of4 .ensures) (c .before .size-of5 .ensures) (c .before .before .before .before .before .before .before .before .before .before .before .form .result) (c .before .before .before .before .before .before .before .before .before .before .shapes-of .ensures))
-    (λ c. encode-by (c .before .before .before .before .before .before .before .before .before .before .size-of .ensures) (c .before .before .before .before .before .before .before .before .size-of2 .ensures) (c .before .before .before .before .before .before .size-of3 .ensures) (c .before .before .before .before .size-of4 .ensures) (c .before .before .size-of5 .ensures) _ _ _ _ _ _ (c .before .before .before .before .before .before .before .before .before .before .before .before .form .ensures) (c .before .before .before .before .before .before .before .before .before .before .before .shapes-of .ensures) (c .before .before .before .before .before .before .before .before .before .bits-of .ensures) (c .before .before .before .before .before .before .before .bits-of2 .ensures) (c .before .before .before .before .before .bits-of3 .ensures) (c .before .before .before .bits-of4 .ensures) (c .before .bits-of5 .ensures) (c .make5 .ensures)))
+    (λ c. encode-by (c .before .before .before .before .before .before .before .before .before .before .size-of .ensures) (c .before .before .before .before .before .before .before .before .size-of2 .ensures) (c .before .before .before .before .before .before .size-of3 .ensures) (c .before .before .before .before .size-of4 .ensures) (c .before .before .size-of5 .ensures) _ _ _ _ _ _ (omega (arith, c .before .before .before .before .before .before .before .before .before .before .before .before .before .if1 .left)) (c .before .before .before .before .before .before .before .before .before .before .before .before .form .ensures) (c .before .before .before .before .before .before .before .before .before .before .before .shapes-of .ensures) (c .before .before .before .before .before .before .before .before .before .bits-of .ensures) (c .before .before .before .before .before .before .before .bits-of2 .ensures) (c .before .before .before .before .before .bits-of3 .ensures) (c .before .before .before .bits-of4 .ensures) (c .before .bits-of5 .ensures) (c .make5 .ensures)))

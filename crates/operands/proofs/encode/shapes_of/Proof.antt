@@ -1,4 +1,4 @@
--- `shapes_of` meets its contract: each arm knows the form. Assumes nothing.
+-- `shapes_of` meets its contract: each arm knows the form.
 use borrow.Author.Needs.{needs}
 use Rattle.operands.proofs.encode.Laws.{shapes-at}
 use Rattle.operands.proofs.encode.shapes_of.Statement.{statement}

@@ -1,4 +1,4 @@
--- `size_of` is how many numbers the field holds. Assumes nothing.
+-- `size_of` is how many numbers the field holds.
 use mathlib.Core.Path.{refl}
 use native.Mathlib.Omega.{arith}
 use borrow.Author.Needs.{needs}

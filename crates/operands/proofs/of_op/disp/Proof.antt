@@ -1,4 +1,4 @@
--- `disp` is the pattern of a displacement. Assumes nothing.
+-- `disp` is the pattern of a displacement.
 use borrow.Author.Needs.{needs}
 use Rattle.insns.proofs.bits.Sign.{widens}
 use Rattle.operands.proofs.of_op.Laws.{pattern-of}

@@ -1,4 +1,4 @@
--- `imm16` is the pattern of a 16-bit literal. Assumes nothing.
+-- `imm16` is the pattern of a 16-bit literal.
 use borrow.Author.Needs.{needs}
 use Rattle.insns.proofs.bits.Sign.{widens}
 use Rattle.operands.proofs.of_op.Laws.{pattern-of}

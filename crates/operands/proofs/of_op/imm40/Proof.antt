@@ -1,4 +1,4 @@
--- `imm40` is the pattern of a raw immediate. Assumes nothing.
+-- `imm40` is the pattern of a raw immediate.
 use borrow.Author.Needs.{needs}
 use Rattle.operands.proofs.of_op.Laws.{pattern-64}
 use Rattle.operands.proofs.of_op.imm40.Statement.{statement}

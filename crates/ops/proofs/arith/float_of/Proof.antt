@@ -1,17 +1,17 @@
--- `float_of` meets its contract: by the kind of number. Assumes nothing.
+-- `float_of` meets its contract: by the kind of number.
 use Rattle.ops.proofs.arith.Laws.{answers}
 use borrow.Author.Needs.{needs}
 use Rattle.ops.proofs.arith.float_of.Statement.{statement}
 use Rattle.ops.proofs.arith.float_of.Tie as tie
 
-returns : tie.Need-returns
-returns c = search (answers, needs)
-
-returns-2 : tie.Need-returns-2
-returns-2 c = search (answers, needs)
-
-returns-3 : tie.Need-returns-3
-returns-3 c = search (answers, needs)
-
 pub float-of-spec : {M : Type 1} → statement M
-float-of-spec = tie.close (tie.spec (λ c. search needs) (λ c κs. search needs) (λ c. search needs) (λ c. search needs) returns returns-2 returns-3)
+float-of-spec =
+    tie.close
+    (tie.spec
+    (λ c. search needs)
+    (λ c κs. search needs)
+    (λ c. search needs)
+    (λ c. search needs)
+    (λ c. search (answers, needs))
+    (λ c. search (answers, needs))
+    (λ c. search (answers, needs)))

@@ -1,4 +1,4 @@
--- `int_answer` meets its contract: the number of a pattern is the Int. Assumes nothing.
+-- `int_answer` meets its contract: the number of a pattern is the Int.
 use mathlib.Core.Path.{sym, ap, _∙_}
 use lib.IntN.{ℤ}
 use mir.Syntax.{w64}
@@ -18,9 +18,13 @@ returns c =
     ap (λ (z : ℤ). is (int z)) (toZ-ofZ w64 (c .signed .result) (record { sfits = c .signed .ok }) ∙ c .signed .ensures)
     ∙ sym (ap (λ (n : Num). fromInt (outcomeOf n)) (c .before .before .n .given .1))
 
-returns-2 : tie.Need-returns-2
-unfolding fromInt
-returns-2 c = sym (ap (λ (n : Num). fromInt (outcomeOf n)) (c .before .n2 .given .1))
-
 pub int-answer-spec : {M : Type 1} → statement M
-int-answer-spec = tie.close (tie.spec (λ c. search needs) (λ c κs. search needs) (λ c. search needs) returns returns-2)
+unfolding fromInt
+int-answer-spec =
+    tie.close
+    (tie.spec
+    (λ c. search needs)
+    (λ c κs. search needs)
+    (λ c. search needs)
+    returns
+    (λ c. sym (ap (λ (n : Num). fromInt (outcomeOf n)) (c .before .n2 .given .1))))

@@ -1,23 +1,8 @@
--- `operate_numbers` meets its contract: by how the operator goes about it, and whether both are Ints. Assumes nothing.
+-- `operate_numbers` meets its contract: by how the operator goes about it, and whether both are Ints.
 use Rattle.ops.proofs.arith.Laws.{answers}
 use borrow.Author.Needs.{needs}
 use Rattle.ops.proofs.arith.operate_numbers.Statement.{statement}
 use Rattle.ops.proofs.arith.operate_numbers.Tie as tie
-
-returns : tie.Need-returns
-returns c = search (answers, needs)
-
-returns-2 : tie.Need-returns-2
-returns-2 c = search (answers, needs)
-
-returns-3 : tie.Need-returns-3
-returns-3 c = search (answers, needs)
-
-returns-4 : tie.Need-returns-4
-returns-4 c = search (answers, needs)
-
-returns-5 : tie.Need-returns-5
-returns-5 c = search (answers, needs)
 
 pub operate-numbers-spec : {M : Type 1} → statement M
 operate-numbers-spec =
@@ -37,8 +22,8 @@ operate-numbers-spec =
     (λ c κs. search needs)
     (λ c κs. search needs)
     (λ c. search needs)
-    returns
-    returns-2
-    returns-3
-    returns-4
-    returns-5)
+    (λ c. search (answers, needs))
+    (λ c. search (answers, needs))
+    (λ c. search (answers, needs))
+    (λ c. search (answers, needs))
+    (λ c. search (answers, needs)))

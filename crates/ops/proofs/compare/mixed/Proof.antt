@@ -4,8 +4,5 @@ use borrow.Author.Needs.{needs}
 use Rattle.ops.proofs.compare.mixed.Statement.{statement}
 use Rattle.ops.proofs.compare.mixed.Tie as tie
 
-returns : tie.Need-returns
-returns c = search (answers, needs)
-
 pub mixed-spec : {M : Type 1} → statement M
-mixed-spec = tie.close (tie.spec (λ c κs. search needs) (λ c κs. search needs) returns)
+mixed-spec = tie.close (tie.spec (λ c κs. search needs) (λ c κs. search needs) (λ c. search (answers, needs)))

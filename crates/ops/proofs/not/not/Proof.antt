@@ -1,4 +1,4 @@
--- `not` meets its contract: by the kind of value. Assumes nothing.
+-- `not` meets its contract: by the kind of value.
 use mathlib.Core.Path.{sym, ap, _∙_}
 use Rattle.value.specs.Value.{meaning}
 use Rattle.ops.specs.Not.{notOf}
@@ -7,27 +7,8 @@ use borrow.Author.Needs.{needs}
 use Rattle.ops.proofs.not.not.Statement.{statement}
 use Rattle.ops.proofs.not.not.Tie as tie
 
-returns : tie.Need-returns
-unfolding notOf
-returns c = c .bool-answer .ensures ∙ sym (ap (λ (v : Value). notOf (meaning v)) (c .before .before .v .given .1))
-
-returns-2 : tie.Need-returns-2
-unfolding notOf
-returns-2 c = sym (ap (λ (v : Value). notOf (meaning v)) (c .enum-told .given .1))
-
-returns-3 : tie.Need-returns-3
-unfolding notOf
-returns-3 c = sym (ap (λ (v : Value). notOf (meaning v)) (c .enum-told2 .given .1))
-
-returns-4 : tie.Need-returns-4
-unfolding notOf
-returns-4 c = sym (ap (λ (v : Value). notOf (meaning v)) (c .enum-told3 .given .1))
-
-returns-5 : tie.Need-returns-5
-unfolding notOf
-returns-5 c = sym (ap (λ (v : Value). notOf (meaning v)) (c .enum-told4 .given .1))
-
 pub not-spec : {M : Type 1} → statement M
+unfolding notOf
 not-spec =
     tie.close
     (tie.spec
@@ -37,8 +18,8 @@ not-spec =
     (λ c. search needs)
     (λ c. search needs)
     (λ c. search needs)
-    returns
-    returns-2
-    returns-3
-    returns-4
-    returns-5)
+    (λ c. c .bool-answer .ensures ∙ sym (ap (λ (v : Value). notOf (meaning v)) (c .before .before .v .given .1)))
+    (λ c. sym (ap (λ (v : Value). notOf (meaning v)) (c .enum-told .given .1)))
+    (λ c. sym (ap (λ (v : Value). notOf (meaning v)) (c .enum-told2 .given .1)))
+    (λ c. sym (ap (λ (v : Value). notOf (meaning v)) (c .enum-told3 .given .1)))
+    (λ c. sym (ap (λ (v : Value). notOf (meaning v)) (c .enum-told4 .given .1))))

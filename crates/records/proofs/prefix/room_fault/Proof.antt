@@ -1,4 +1,4 @@
--- `prefix::room_fault` meets its contract: a law for each way out. Assumes nothing.
+-- `prefix::room_fault` meets its contract: a law for each way out.
 use Rattle.records.proofs.prefix.Laws.{rooms}
 use Rattle.records.proofs.prefix.room_fault.Statement.{statement}
 use Rattle.records.proofs.prefix.room_fault.Tie as tie

@@ -1,4 +1,4 @@
--- `check::check` meets its contract: a chain of calls, of which the first fault counts. Assumes nothing.
+-- `check::check` meets its contract: a chain of calls, of which the first fault counts.
 use borrow.Author.Needs.{needs}
 use Rattle.table.specs.Table.{checkOf}
 use Rattle.table.proofs.Whole.{checks}

@@ -1,4 +1,4 @@
--- `check::dest_fault` meets its contract: each return is a law of the destination. Assumes nothing.
+-- `check::dest_fault` meets its contract: each return is a law of the destination.
 use borrow.Author.Needs.{needs}
 use Rattle.table.proofs.Parts.{parts}
 use Rattle.table.proofs.check.dest_fault.Statement.{statement}

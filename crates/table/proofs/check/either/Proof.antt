@@ -1,4 +1,4 @@
--- `check::either` meets its contract: by the two tests. Assumes nothing.
+-- `check::either` meets its contract: by the two tests.
 use mathlib.Core.Path.{_≡_}
 use mathlib.Core.Bool.{Bool, true, false}
 use Prim.Native.Nat.{ℕ, _<_}

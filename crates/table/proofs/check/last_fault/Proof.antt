@@ -1,4 +1,4 @@
--- `check::last_fault` meets its contract: each return is a law of the last node. Assumes nothing.
+-- `check::last_fault` meets its contract: each return is a law of the last node.
 use borrow.Author.Needs.{needs}
 use Rattle.table.proofs.Parts.{parts}
 use Rattle.table.proofs.check.last_fault.Statement.{statement}

@@ -1,4 +1,4 @@
--- `check::layout_fault` meets its contract: each return is a law of the sum. Assumes nothing.
+-- `check::layout_fault` meets its contract: each return is a law of the sum.
 use borrow.Author.Needs.{needs}
 use Rattle.table.proofs.Parts.{parts}
 use Rattle.table.proofs.check.layout_fault.Statement.{statement}

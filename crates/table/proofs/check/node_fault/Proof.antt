@@ -1,4 +1,4 @@
--- `check::node_fault` meets its contract: a chain of calls, of which the first fault counts. Assumes nothing.
+-- `check::node_fault` meets its contract: a chain of calls, of which the first fault counts.
 use borrow.Author.Needs.{needs}
 use Rattle.table.proofs.Nodes.{node-faults}
 use Rattle.table.proofs.check.node_fault.Statement.{statement}

@@ -1,4 +1,4 @@
--- `check::nodes_fault` meets its contract. The invariant: the nodes passed have no fault. Assumes nothing.
+-- `check::nodes_fault` meets its contract. The invariant: the nodes passed have no fault.
 use mathlib.Core.Path.{_≡_, refl}
 use Prim.Native.Nat.{_-_, _≤_}
 use native.Mathlib.Omega.{arith}

@@ -1,4 +1,4 @@
--- `check::shape_fault` meets its contract: a chain of tests. Assumes nothing.
+-- `check::shape_fault` meets its contract: a chain of tests.
 use Rattle.faults.proofs.Faults.{tests}
 use Rattle.faults.specs.Faults.{fault, _or-else_}
 use Rattle.table.specs.Table.{shapeFault}

@@ -1,4 +1,4 @@
--- `check::span_fault` meets its contract: each return is a law of the span. Assumes nothing.
+-- `check::span_fault` meets its contract: each return is a law of the span.
 use borrow.Author.Needs.{needs}
 use Rattle.table.proofs.Parts.{parts}
 use Rattle.table.proofs.check.span_fault.Statement.{statement}

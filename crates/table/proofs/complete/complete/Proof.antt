@@ -1,13 +1,13 @@
--- `complete::complete` meets its contract. The invariant: the nodes below i are done. Assumes nothing.
+-- `complete::complete` meets its contract. The invariant: the nodes below i are complete.
 use Prim.Native.Nat.{_-_}
-use native.Mathlib.Omega.{arith}
 use Rattle.table.specs.Table.{nodeCount}
-use Rattle.table.proofs.complete.Shapes.{Done, passes, below-of, shallow-of}
+use native.Mathlib.Omega.{arith}
+use Rattle.table.proofs.complete.Laws.{Passed, passes, below-of, shallow-of}
 use Rattle.table.proofs.complete.complete.Statement.{statement}
 use Rattle.table.proofs.complete.complete.Tie as tie
 
 abbrev Inv-loop : tie.InvT-loop
-Inv-loop nodes₀ i₀ nodes i = Done nodes₀ nodes i
+Inv-loop nodes₀ i₀ nodes i = Passed nodes₀ nodes i
 
 abbrev μ-loop : tie.MeasureT-loop
 μ-loop nodes₀ i₀ nodes i = nodeCount nodes - i
@@ -19,7 +19,7 @@ complete-spec =
     Inv-loop
     μ-loop
     (λ c. search passes)
-    (λ c κs. (search passes, (below-of (c .before .before .loop .inv), shallow-of (c .before .before .loop .i) (c .before .before .loop .inv) (omega arith) (omega arith))))
+    (λ c κs. (search passes, (below-of (c .before .before .loop .inv), shallow-of (c .before .before .loop .inv) (omega arith))))
     (λ c. search passes)
     (λ c. search passes)
     (λ c. search passes)

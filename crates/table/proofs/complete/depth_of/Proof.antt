@@ -1,5 +1,5 @@
--- `complete::depth_of` meets its contract: each return is a law of the span. Assumes nothing.
-use Rattle.table.proofs.complete.Shapes.{spans}
+-- `complete::depth_of` meets its contract: each return is a law of the span.
+use Rattle.table.proofs.complete.Laws.{spans}
 use Rattle.table.proofs.complete.depth_of.Statement.{statement}
 use Rattle.table.proofs.complete.depth_of.Tie as tie
 

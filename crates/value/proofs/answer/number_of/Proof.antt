@@ -1,4 +1,4 @@
--- `number_of` meets its contract: by the kind of value. Assumes nothing.
+-- `number_of` meets its contract: by the kind of value.
 use mathlib.Core.Path.{sym, ap, _∙_}
 use Prim.Native.Nat.{ℕ}
 use lib.IntN.{ℤ}
@@ -20,23 +20,8 @@ returns c =
     ap (λ (m : ℕ). int (toZ w64 m)) (c .pattern .ensures) ∙ ap (λ (z : ℤ). int (toZ w64 (ofZ w64 z))) back ∙ ap int back
     ∙ sym (ap (λ (v : Value). asNumber (meaning v)) (c .before .before .v .given .1))
 
-returns-2 : tie.Need-returns-2
-unfolding asNumber shown
-returns-2 c = ap float (c .pattern2 .ensures) ∙ sym (ap (λ (v : Value). asNumber (meaning v)) (c .before .before .v2 .given .1))
-
-returns-3 : tie.Need-returns-3
-unfolding asNumber shown
-returns-3 c = sym (ap (λ (v : Value). asNumber (meaning v)) (c .before .v3 .given .1))
-
-returns-4 : tie.Need-returns-4
-unfolding asNumber shown
-returns-4 c = sym (ap (λ (v : Value). asNumber (meaning v)) (c .enum-told .given .1))
-
-returns-5 : tie.Need-returns-5
-unfolding asNumber shown
-returns-5 c = sym (ap (λ (v : Value). asNumber (meaning v)) (c .enum-told2 .given .1))
-
 pub number-of-spec : {M : Type 1} → statement M
+unfolding asNumber shown
 number-of-spec =
     tie.close
     (tie.spec
@@ -48,7 +33,7 @@ number-of-spec =
     (λ c. search needs)
     (λ c. search needs)
     returns
-    returns-2
-    returns-3
-    returns-4
-    returns-5)
+    (λ c. ap float (c .pattern2 .ensures) ∙ sym (ap (λ (v : Value). asNumber (meaning v)) (c .before .before .v2 .given .1)))
+    (λ c. sym (ap (λ (v : Value). asNumber (meaning v)) (c .before .v3 .given .1)))
+    (λ c. sym (ap (λ (v : Value). asNumber (meaning v)) (c .enum-told .given .1)))
+    (λ c. sym (ap (λ (v : Value). asNumber (meaning v)) (c .enum-told2 .given .1))))

@@ -1,4 +1,4 @@
--- `dest_of` is the destination that the number stands for. Assumes nothing.
+-- `dest_of` is the destination that the number stands for.
 use borrow.Author.Needs.{needs}
 use Rattle.vosemaqe.proofs.results.Laws.{dests}
 use Rattle.vosemaqe.proofs.results.dest_of.Statement.{statement}

@@ -1,4 +1,4 @@
--- `report_of` gives the cells of each answer. Assumes nothing.
+-- `report_of` gives the cells of each answer.
 use borrow.Author.Needs.{needs}
 use Rattle.vosemaqe.proofs.results.Laws.{reports}
 use Rattle.vosemaqe.proofs.results.report_of.Statement.{statement}

@@ -38,7 +38,7 @@ fn main() {
             }
             Err(Refused(n)) => *refused.entry(*n).or_default() += 1,
         }
-        if !explained(&job, &a, &b, &mut seen) {
+        if !explained(&mut h, &job, &a, &b, &mut seen) {
             unexplained += 1;
             println!("FAIL {job:?}\n  published {a:?}\n  house     {b:?}");
         }

@@ -1,7 +1,7 @@
 //! The inputs of the rows of docs/DIFFERENCES.md, run, and each answer held
 //! to what the row says (the file names what is read and not run).
 use published::value::Value;
-use runner::in_immediate;
+use runner::{explained, in_immediate};
 use tables::meaning::{compare, V};
 use tables::opcodes::{line, unpack};
 use tables::*;
@@ -45,7 +45,14 @@ fn main() {
          "load_const 1, 0 (0x105), slots [(3, 77f0000000000000)], register 1, frame 2");
     let tenth = "load_const 1, 0 (0x105), slots [(3, 3fb999999999999a)], register 1, frame 2";
     both("4 Float 0.1", &b().float(0.1).job(1), tenth, tenth);
-    both("5 no slots lent", &Job { max_slots: 0, ..flonum }, "load_imm40 1, 14 (0xe000103), slots [], register 1, frame 2", "refused with 6");
+    let none = Job { max_slots: 0, ..flonum };
+    both("5 no slots lent", &none, "load_imm40 1, 14 (0xe000103), slots [], register 1, frame 2", "refused with 6");
+    // the row explains that answer of the published mode, and no other: another number, another word, 6 where nothing was asked for
+    let (right, ours) = (p.compile(&none), h.compile(&none));
+    let another = right.clone().map(|c| Compiled { words: vec![c.words[0] ^ 1 << 16], ..c });
+    for (what, answer, says) in [("the published answer", &right, "true"), ("5", &Err(Refused(5)), "false"), ("6", &Err(Refused(6)), "false"), ("7", &Err(Refused(7)), "false"), ("another register", &another, "false")] {
+        side("5 explained", what, explained(&mut h, &none, answer, &ours, &mut vec![]).to_string(), says);
+    }
 
     // 6 to 8: patch_jump and decoding. A word that decodes is printed by the given display
     let jmp = [published::insns::Insn::jmp(0)];
