@@ -1,7 +1,6 @@
 #!/bin/sh
 # Shortcuts made in a definition and in its code alike, so that the crate they stand in still proves them: the claim must refuse each.
 # tools/across.sh [LABEL..]: the edits under tools/across/, each in a copy of the repository; one line for each, then a count.
-# The computed samples of codegen are left out of the copy. They would refuse each edit first; what is asked is that the theorem does.
 set -u
 root=$(cd "$(dirname "$0")/.." && pwd)
 work=$(mktemp -d)
@@ -39,10 +38,6 @@ one() { # EDIT
     cp -R "$root/crates" "$root/crates.txt" "$work/copy/"
     [ ! -d "$root/target" ] || cp -R "$root/target" "$work/copy/target"
     cd "$work/copy" || exit 1
-    for crate in codegen; do
-        sed -i '/^pub mod Samples$/d' "crates/$crate/proofs/Lib.antt"
-        rm -f "crates/$crate/proofs/Samples.antt"
-    done
     all=$((all + 1))
     if ! apply "$1"; then
         echo "across $label: BAD EDIT: an old text is not there, or more than once"

@@ -1,6 +1,6 @@
 -- The constants of a compiled table are literals of its nodes, so that the slots that compiling leaves lend them, with Nil behind.
 use mathlib.Core.Path.{_≡_, refl, ap}
-use mathlib.Core.Bool.{Bool, true, false, not}
+use mathlib.Core.Bool.{Bool, true, false, not, cond}
 use mathlib.Core.List.{List, [], _∷_, _++_, map}
 use Prim.Native.Nat.{ℕ, zero, suc, _+_, _-_, _*_, _<_, _^_}
 use native.Mathlib.Omega.{arith as linear}
@@ -16,19 +16,17 @@ use Rattle.table.specs.Tree.{Tree, leaf, unary, binary, ternary, Leaf, nil, yep
 use Rattle.table.specs.Tree as Tree
 use Rattle.emit.specs.declared.state.Dst.{Dst}
 use Rattle.emit.specs.declared.state.Dst.the-variants.{Any, To}
-use Rattle.fold.specs.declared.Tail.{Tail}
-use Rattle.fold.specs.declared.Tail.the-variants as Tail
 use Rattle.fold.specs.declared.Fold.{Fold}
 use Rattle.fold.specs.declared.Fold.the-variants.{Into, General}
 use Rattle.fold.specs.declared.literal.Imm.{Imm}
 use Rattle.fold.specs.declared.literal.Imm.the-variants.{Imm16, NoImm}
 use Rattle.insns.specs.declared.op.Three.{Three}
 use Rattle.fold.specs.Literal.{fitsImm40, asImm16}
-use Rattle.fold.specs.Fold.{foldOf}
+use Rattle.fold.specs.Fold.{foldOf, takesShift}
 use Rattle.fold.specs.Opcodes.{threeOf}
 use Rattle.compile.specs.Buffers.{padded}
 use Rattle.claim.specs.Claim.{Slots}
-use Rattle.claim.proofs.fragments.Frag.{ValueF, BranchF, Frag, dReg, dNext, leafF, intF, intoF, second, operandF, arithF, compareF, condF, ternF, juncB, unaryN, binaryN, frag}
+use Rattle.claim.proofs.fragments.Frag.{ValueF, BranchF, Frag, dReg, dNext, leafF, intF, intoF, second, arithF, compareF, condF, ternF, juncB, unaryN, binaryN, frag}
 use Rattle.claim.proofs.Pairs.{payload-low}
 
 -- ---- constants that a lent pair can hold
@@ -86,14 +84,11 @@ two-held v u n ks a b =
 
 arith-held : (f : Fold) (o : Three) (v v₁ u : ValueF) → HeldV v → HeldV v₁ → HeldV u → HeldV (arithF f o v v₁ u)
 arith-held General o v v₁ u a a₁ b dst n ks = two-held v u n ks a b
-arith-held (Into tail) o v v₁ u a a₁ b dst n ks = operand tail Any n ks
+arith-held (Into tail) o v v₁ u a a₁ b dst n ks = operand (takesShift tail) Any n ks
   where
-    operand : (tail : Tail) → HeldV (operandF tail v v₁)
-    operand Tail.Not = a
-    operand (Tail.Imm o z) = a
-    operand (Tail.Shift o k) = a
-    operand (Tail.Mask lo len) = a
-    operand (Tail.ShiftMask k lo len) = a₁
+    operand : (t : Bool) → HeldV (cond t v₁ v)
+    operand true = a₁
+    operand false = a
 
 compare-held : (c : Cmp) (l r : Imm) (v u : ValueF) → HeldV v → HeldV u → HeldB (compareF c l r v u)
 compare-held c l (Imm16 z) v u a b sense n ks = a Any n ks

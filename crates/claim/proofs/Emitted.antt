@@ -33,7 +33,6 @@ use Rattle.insns.specs.Fields as Fields
 use Rattle.fold.specs.Literal as Literal
 use Rattle.fold.specs.Fold as Fold
 use Rattle.effect.specs.Effect.{effectOf}
-use Rattle.effect.specs.Effect as Effect
 use Rattle.emit.specs.State.{State}
 use Rattle.claim.specs.Claim.{Accepted}
 use Rattle.claim.specs.Refusals.{needed}
@@ -48,7 +47,6 @@ use Rattle.claim.proofs.Refusals.{refusals}
 -- ---- the machine halts at every other opcode
 
 runs : (reg slot : ℕ → Result) (i : Op) → halts (effectOf reg slot i) ≡ not (isNop (opcodeOf i) || isEmitted (opcodeOf i))
-unfolding Effect.threeOf
 runs reg slot (Op.Bare Bare.Panic) = refl
 runs reg slot (Op.Bare Bare.Breakpoint) = refl
 runs reg slot (Op.Bare Bare.Nop) = refl

@@ -9,7 +9,6 @@ use lib.ListN.{length, getD, take, replicate, length-append, List·getD-eq-defau
 use lib.Seq.{take-at, length-take-le}
 use borrow.Author.Tests.{ltb-true, ltb-false}
 use Rattle.faults.specs.Limits.{maxNodes}
-use Rattle.value.specs.Value.{kindOf, payloadOf}
 use Rattle.value.specs.Answer.{Result}
 use Rattle.table.specs.declared.Dest.{Dest}
 use Rattle.eval.specs.Evaluate.{evaluateOf}
@@ -18,7 +17,8 @@ use Rattle.emit.specs.State.{Res, done, fail, State}
 use Rattle.compile.specs.declared.buffers.Compiled.{Compiled}
 use Rattle.compile.specs.declared.buffers.Compiled.the-variants.{Done, Refused}
 use Rattle.compile.specs.Compile.{compileOf}
-use Rattle.compile.specs.Buffers.{Compiles, answered, padded, wordsOf, kindsOf, payloadsOf}
+use Rattle.compile.specs.Buffers.{Compiles, padded, wordsOf}
+use Rattle.compile.proofs.Once.{Alike, compiles-once}
 use Rattle.claim.specs.Claim.{Accepted, Wide, Slots}
 use Rattle.claim.specs.Entry.{Promised, Whole}
 use Rattle.claim.proofs.Theorem.{slots-left}
@@ -125,24 +125,6 @@ module _ (nodes : List ℕ) (params locals : ℕ) (dest : Dest) {c k p : ℕ} (k
           }
 
 -- ---- one outcome only
-
--- what compiling answers and leaves
-pub record Alike (q q' : Compiled) (code code' sks sks' sps sps' : List ℕ) : Type 0 where
-  pub answer : q ≡ q'
-  pub words : code ≡ code'
-  pub slotKinds : sks ≡ sks'
-  pub slotPayloads : sps ≡ sps'
-
-pub compiles-once :
-    {m m' : Res (ℕ × State)} {q q' : Compiled} {code code' sks sks' sps sps' : List ℕ} {c k p : ℕ} → m ≡ m' →
-    Compiles q m code sks sps c k p → Compiles q' m' code' sks' sps' c k p → Alike q q' code code' sks sks' sps sps'
-compiles-once {c = c} {k = k} {p = p} e h h' =
-    record {
-      answer = h .answer ∙ ap answered e ∙ sym (h' .answer);
-      words = h .words ∙ ap (λ (m : Res (ℕ × State)). padded (wordsOf m) c) e ∙ sym (h' .words);
-      slotKinds = h .slotKinds ∙ ap (λ (m : Res (ℕ × State)). padded (kindsOf m) k) e ∙ sym (h' .slotKinds);
-      slotPayloads = h .slotPayloads ∙ ap (λ (m : Res (ℕ × State)). padded (payloadsOf m) p) e ∙ sym (h' .slotPayloads);
-    }
 
 -- what the whole call answers and leaves
 pub whole-once :

@@ -6,7 +6,8 @@ use Prim.Native.Nat.{ℕ, zero, suc, _+_, _-_, _≤_, _<_}
 use native.Mathlib.Omega.{arith}
 use lib.Dec.{eqb}
 use lib.ListN.{getD}
-use Rattle.table.specs.Table.{kindAt, payloadAt, firstAt, child1, child2, child3, Node, Child}
+use Rattle.table.specs.Table.{kindAt, payloadAt, firstAt, child1, child2, child3}
+use Rattle.table.specs.Nodes.{Node, Child}
 use Rattle.table.specs.Tree.{Leaf, Kind, leafKind, unaryKind, binaryKind, ternaryKind, noKind, kindOf, tree}
 use Rattle.table.proofs.Arities.{at-kind}
 use Rattle.table.proofs.Trees.{View, is-leaf, is-unary, is-binary, is-ternary, view}

@@ -9,7 +9,8 @@ use Rattle.value.specs.Answer.{Result}
 use Rattle.table.specs.declared.Dest.{Dest}
 use Rattle.insns.specs.declared.op.Op.{Op}
 use Rattle.insns.specs.declared.Made.{Made}
-use Rattle.insns.specs.Insns.{opOf, formOf, madeOf}
+use Rattle.insns.specs.Opcodes.{opOf}
+use Rattle.insns.specs.Insns.{formOf, madeOf}
 use Rattle.effect.specs.Effect.{Effect, write, branch, next, halt, effectOf}
 use Rattle.emit.specs.State.{State}
 use Rattle.claim.specs.Claim.{Accepted}

@@ -1,14 +1,14 @@
--- The branch rules: what the code's steps give is what the definition gives of the node's tree. Assumes nothing.
+-- The branch rules: what the code's steps give is what the definition gives of the node's tree.
 use mathlib.Core.Path.{_≡_, refl, sym, ap, subst, _∙_}
 use mathlib.Core.Bool.{Bool, true, false, not}
 use mathlib.Core.List.{List}
-use Prim.Native.Nat.{ℕ, _-_, _<_, _≤_}
+use Prim.Native.Nat.{ℕ, _-_, _<_}
 use native.Mathlib.Omega.{arith as numbers}
 use lib.Dec.{eqb}
 use lib.ListN.{length, take, drop}
 use Rattle.table.specs.Table.{kindAt, child1, child2}
 use Rattle.table.specs.Nodes.{ChildIs}
-use Rattle.table.specs.Tree.{Unary, minus, not′, Cmp, Binary, arith, cmp, and, or, Tree, unary, binaryKind, kindOf, tree}
+use Rattle.table.specs.Tree.{Unary, minus, not′, Cmp, Binary, arith, cmp, and, or, Tree, binaryKind, kindOf, tree}
 use Rattle.table.proofs.Trees.{View, is-leaf, is-unary, is-binary, is-ternary, UnaryAt, BinaryAt, view, unary-in, binary-in}
 use Rattle.table.proofs.Arities.{unary-code, binary-code, arith-codes, cmp-codes}
 use Rattle.insns.specs.declared.op.Cmp.{Cmp as JumpCmp}
@@ -20,8 +20,9 @@ use Rattle.emit.specs.declared.jump.Jumps.{Jumps}
 use Rattle.emit.specs.declared.jump.Jumps.the-variants as J
 use Rattle.fold.specs.declared.How.{How}
 use Rattle.emit.specs.State.{Res, bind, State}
-use Rattle.fold.specs.Opcodes.{branchOf, isJunction}
-use Rattle.fold.specs.Fold.{Picked, one, both, pickOf}
+use Rattle.fold.specs.Opcodes.{branchOf}
+use Rattle.fold.specs.Fold.{one}
+use Rattle.fold.specs.Nodes.{isJunction, pickOf}
 use Rattle.emit.specs.Jump.{oneTo, pairTo, junctionTo}
 use Rattle.emit.specs.Read.{Bufs, bufs, stOf, Says}
 use Rattle.emit.specs.Lists.{readJumps, FitJumps, Lists, AfterJumping, Joined}
@@ -169,7 +170,7 @@ module _ {ws c k : List ℕ} {i : ℕ} {st : St} (ready : Ready (bufs ws c k) i 
           (ap (λ (q : List ℕ). bind (readJumps (bufs ws c2 k2) q y) (junctionTo sm (take n js))) back
           ∙ ap (λ (q : List ℕ). bind (readJumps (bufs ws c2 k2) m y) (junctionTo sm q)) front
           ∙ ap (λ (q : Bool). bind (readJumps (bufs ws c2 k2) m y) (junctionTo q (take n l))) sames
-          ∙ ap (λ (q : Res (List ℕ × State)). bind q f) (two .same)
+          ∙ ap (λ (q : Res (List ℕ × State)). bind q f) (two .is)
           ∙ ap (λ (q : ℕ). bind (branchAt ws q sense room' S) f) (right .is)
           ∙ ap (λ (q : ℕ). bind (branchAt ws (child1 ws i) sense q S) f) e
           ∙ go-jumps second got first-is

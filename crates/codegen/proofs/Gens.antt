@@ -1,12 +1,10 @@
--- The generator's rules of a tree, by what one instruction takes in of it. Assumes nothing.
-use mathlib.Core.Path.{_≡_, refl, sym, ap, subst, _∙_}
-use mathlib.Core.Bool.{Bool, true, false, not}
-use mathlib.Core.List.{List}
+-- The generator's rules of a tree, by what one instruction takes in of it.
+use mathlib.Core.Path.{_≡_, refl, sym, ap}
+use mathlib.Core.Bool.{Bool}
 use Prim.Native.Nat.{ℕ}
 use native.Mathlib.Omega.{arith as numbers}
-use Rattle.table.specs.Tree.{Leaf, Unary, minus, not′, Arith, Cmp, Binary, arith, cmp, and, or, Tree, leaf, unary, binary, ternary}
+use Rattle.table.specs.Tree.{minus, not′, Arith, Cmp, Binary, arith, cmp, and, or, Tree, leaf, unary, binary, ternary}
 use Rattle.emit.specs.declared.state.Dst.{Dst}
-use Rattle.emit.specs.declared.state.Dst.the-variants.{Any}
 use Rattle.fold.specs.declared.Tail.{Tail}
 use Rattle.fold.specs.declared.Tail.the-variants as Tail
 use Rattle.fold.specs.declared.Fold.{Fold}
@@ -15,11 +13,12 @@ use Rattle.fold.specs.declared.literal.Imm.{Imm}
 use Rattle.fold.specs.declared.literal.Imm.the-variants.{Imm16, NoImm}
 use Rattle.fold.specs.declared.How.{How}
 use Rattle.fold.specs.declared.How.the-variants as How
-use Rattle.emit.specs.State.{Res, State}
-use Rattle.fold.specs.Fold.{foldOf, opFold, leftOf, operandOf, takesShift, Picked, one, both, comparePick, pickOf}
+use Rattle.emit.specs.State.{State}
+use Rattle.fold.specs.Fold.{foldOf, one, two, comparePick}
+use Rattle.fold.specs.Nodes.{opFold, leftOf, operandOf, pickOf}
 use Rattle.fold.specs.Opcodes.{threeOf, branchOf}
 use Rattle.fold.specs.Literal.{asImm16}
-use Rattle.codegen.specs.Gen.{Value, gen, leafV, oneV, twoV, operand, binaryV, condV, oneB, pairB, compareB, junctionB, ternaryV}
+use Rattle.codegen.specs.Gen.{Value, gen, oneV, twoV, operand, binaryV, oneB, pairB, compareB}
 
 -- `first` is the left operand's value
 pub first-is : (t : Tree) → gen t .first ≡ gen (leftOf t) .value
@@ -93,7 +92,7 @@ module _ (room : ℕ) (s : State) where
   compare-one c a b (Imm16 n) NoImm sense e = one-is e
   compare-one c a b NoImm NoImm sense e = absurd (let z : _≡_ {A = ℕ} 0 1 = cc in omega numbers)
 
-  compare-both : (c : Cmp) (a b : Tree) (l r : Imm) (sense : Bool) → comparePick c a b l r sense ≡ both →
+  compare-both : (c : Cmp) (a b : Tree) (l r : Imm) (sense : Bool) → comparePick c a b l r sense ≡ two →
       pairB (branchOf c sense) (gen a .value) (gen b .value) room s ≡ compareB c l r (gen a .value) (gen b .value) sense room s
   unfolding compareB
   compare-both c a b l (Imm16 n) sense e = absurd (let z : _≡_ {A = ℕ} 0 1 = cc in omega numbers)
@@ -122,7 +121,7 @@ module _ (room : ℕ) (s : State) where
   pick-one (binary or a b) sense al e = absurd al
   pick-one (ternary c a b) sense al e = one-is e
 
-  pub pick-both : (c : Cmp) (a b : Tree) (sense : Bool) → pickOf (binary (cmp c) a b) sense ≡ both →
+  pub pick-both : (c : Cmp) (a b : Tree) (sense : Bool) → pickOf (binary (cmp c) a b) sense ≡ two →
       pairB (branchOf c sense) (gen a .value) (gen b .value) room s ≡ gen (binary (cmp c) a b) .branch sense room s
   unfolding gen pickOf
   pick-both c a b sense e = compare-both c a b (asImm16 a) (asImm16 b) sense e

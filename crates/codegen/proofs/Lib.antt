@@ -1,7 +1,6 @@
 -- The laws that the proofs of `codegen` cite.
 pub mod Gens
 pub mod Room
-pub mod Samples
 pub mod Parts
 pub mod Walk
 pub mod Values

@@ -1,8 +1,8 @@
--- Steps over a list of jumps, the parts of that list, and two operands one after the other. Assumes nothing.
+-- Steps over a list of jumps, the parts of that list, and two operands one after the other.
 use mathlib.Core.Path.{_≡_, refl, sym, ap, subst, _∙_}
-use mathlib.Core.Bool.{Bool, true, false, not, Bool·beq}
-use mathlib.Core.List.{List, [], _∷_, _++_, append-nil}
-use Prim.Native.Nat.{ℕ, _+_, _-_, _<_, _≤_}
+use mathlib.Core.Bool.{Bool, true, false, Bool·beq}
+use mathlib.Core.List.{List, [], _++_, append-nil}
+use Prim.Native.Nat.{ℕ, _+_, _-_, _≤_}
 use native.Mathlib.Omega.{arith}
 use lib.ListN.{length, take, drop, length-drop, length-append, drop-of-length-le}
 use lib.Seq.{length-take-le, take-at, drop-at}
@@ -13,9 +13,9 @@ use Rattle.emit.specs.declared.state.Ans.{Ans}
 use Rattle.emit.specs.declared.state.Ans.the-variants.{Got, No}
 use Rattle.emit.specs.declared.jump.Jumps.{Jumps}
 use Rattle.emit.specs.declared.jump.Jumps.the-variants as J
-use Rattle.emit.specs.State.{Res, done, fail, bind, State}
+use Rattle.emit.specs.State.{Res, bind, State}
 use Rattle.emit.specs.Read.{Bufs, bufs, stOf, read, Fit, FitAns, Says}
-use Rattle.emit.specs.Lists.{readJumps, FitJumps, Lists, Counted, Behind}
+use Rattle.emit.specs.Lists.{FitJumps, Lists, Counted, Behind}
 use Rattle.codegen.specs.Gen.{same}
 use Rattle.codegen.specs.Rules.{valueAt}
 use Rattle.emit.proofs.Laws.{go, says-by}
@@ -25,21 +25,21 @@ use Rattle.emit.proofs.Laws.{go, says-by}
 module _ {b : Bufs} {x : Ans} {m : Res (ℕ × State)} where
   -- a value's refusal is handed on
   pub stop-lists : (js : List ℕ) (k : ℕ × State → Res (List ℕ × State)) {n : ℕ} → x ≡ No n → Says b x m → Lists b js (J.No n) (bind m k)
-  stop-lists js k e h = record { same = rw (← h .same, e); fit = tt }
+  stop-lists js k e h = record { is = rw (← h .is, e); fit = tt }
 
   -- the next leaf takes the answer as it is
   pub chain-lists : (k : ℕ × State → Res (List ℕ × State)) {b' : Bufs} {js : List ℕ} {r : Jumps} → Says b x m → (FitAns b x → Lists b' js r (bind (read b x) k)) → Lists b' js r (bind m k)
-  chain-lists k h g = let s = g (h .fit) in record { same = s .same ∙ ap (λ (q : Res (ℕ × State)). bind q k) (h .same); fit = s .fit }
+  chain-lists k h g = let s = g (h .fit) in record { is = s .is ∙ ap (λ (q : Res (ℕ × State)). bind q k) (h .is); fit = s .fit }
 
 module _ {b : Bufs} {js : List ℕ} {x : Jumps} {m : Res (List ℕ × State)} where
   pub go-jumps : {B : Type 0} (k : List ℕ × State → Res B) {n : ℕ} {s : St} → x ≡ J.Are n s → Lists b js x m → k (take n js, stOf b s) ≡ bind m k
-  go-jumps k e h = rw (← h .same, e)
+  go-jumps k e h = rw (← h .is, e)
 
   pub stop-says : (k : List ℕ × State → Res (ℕ × State)) {n : ℕ} → x ≡ J.No n → Lists b js x m → Says b (No n) (bind m k)
-  stop-says k e h = record { same = rw (← h .same, e); fit = tt }
+  stop-says k e h = record { is = rw (← h .is, e); fit = tt }
 
   pub stop-jumps : (k : List ℕ × State → Res (List ℕ × State)) {n : ℕ} → x ≡ J.No n → Lists b js x m → Lists b js x (bind m k)
-  stop-jumps k e h = record { same = rw (← h .same, e); fit = h .fit }
+  stop-jumps k e h = record { is = rw (← h .is, e); fit = h .fit }
 
   pub kept-jumps : {n : ℕ} {s : St} → x ≡ J.Are n s → Lists b js x m → Fit b s
   kept-jumps e h = subst (FitJumps b js) e (h .fit) .0
@@ -48,7 +48,7 @@ module _ {b : Bufs} {js : List ℕ} {x : Jumps} {m : Res (List ℕ × State)} wh
   listed e h = subst (FitJumps b js) e (h .fit) .1
 
   pub lists-by : {m' : Res (List ℕ × State)} → m ≡ m' → Lists b js x m → Lists b js x m'
-  lists-by e h = record { same = h .same ∙ e; fit = h .fit }
+  lists-by e h = record { is = h .is ∙ e; fit = h .fit }
 
 -- the words of what was said are in the buffer
 pub counted : {t c k : List ℕ} {m : Res (ℕ × State)} (x : Ans) → Says (bufs t c k) x m → Counted c x

@@ -1,5 +1,5 @@
--- A jump list of half as many places as a tree has nodes is enough: with that room or more the rules give the same. Assumes nothing.
-use mathlib.Core.Path.{_≡_, refl, sym, ap, _∙_}
+-- A jump list of half as many places as a tree has nodes is enough: with that room or more the rules give the same.
+use mathlib.Core.Path.{_≡_, refl, ap, _∙_}
 use mathlib.Core.Bool.{Bool, true, false, not, cond}
 use mathlib.Core.List.{List, [], _∷_, _++_}
 use Prim.Native.Nat.{ℕ, _+_, _*_, _-_, _<_, _≤_}
@@ -8,9 +8,8 @@ use lib.Dec.{ltb}
 use lib.ListN.{length, length-append}
 use borrow.Author.Tests.{lt-ltb}
 use Rattle.faults.specs.Numbers.{noRoom}
-use Rattle.table.specs.Tree.{Leaf, Unary, minus, not′, Arith, Cmp, Binary, arith, cmp, and, or, Tree, leaf, unary, binary, ternary, size}
+use Rattle.table.specs.Tree.{minus, not′, Cmp, arith, cmp, and, or, Tree, leaf, unary, binary, ternary, size}
 use Rattle.insns.specs.declared.Made.{Made}
-use Rattle.insns.specs.declared.op.Op.{Op}
 use Rattle.insns.specs.declared.op.Three.{Three}
 use Rattle.insns.specs.declared.op.Cmp.{Cmp as JumpCmp}
 use Rattle.emit.specs.declared.state.Dst.{Dst}
@@ -23,14 +22,14 @@ use Rattle.fold.specs.declared.literal.Imm.{Imm}
 use Rattle.fold.specs.declared.literal.Imm.the-variants.{Imm16, NoImm}
 use Rattle.fold.specs.declared.How.{How}
 use Rattle.fold.specs.declared.How.the-variants as How
-use Rattle.emit.specs.State.{Res, done, fail, bind, State, here, release, destD, storeD}
+use Rattle.emit.specs.State.{Res, done, fail, bind, State, here, destD, storeD}
 use Rattle.emit.specs.Jump.{patchD, patchesD, leapD}
 use Rattle.fold.specs.Literal.{asImm16}
 use Rattle.fold.specs.Fold.{foldOf, minusOne}
-use Rattle.fold.specs.Opcodes.{threeOf, mirror, branchOf}
-use Rattle.emit.specs.Steps.{leafD, tailTo, threeTo, moveTo}
+use Rattle.fold.specs.Opcodes.{threeOf}
+use Rattle.emit.specs.Steps.{tailTo, threeTo, moveTo}
 use Rattle.emit.specs.Jump.{leapTo, oneTo, pairTo, junctionTo, boolD, turnD}
-use Rattle.codegen.specs.Gen.{Value, Branch, leafV, oneV, twoV, operand, binaryV, intoD, condV, armsD, ternaryV, oneB, testB, pairB, compareB, same, junctionB, Gen, plain, condition, unaryG, binaryG, gen}
+use Rattle.codegen.specs.Gen.{Value, Branch, leafV, oneV, twoV, operand, binaryV, intoD, condV, armsD, ternaryV, oneB, testB, pairB, compareB, same, junctionB, gen}
 
 -- ---- what holds of every answer that is no refusal
 

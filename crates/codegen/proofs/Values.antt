@@ -1,8 +1,8 @@
--- The value rules: what the code's steps give is what the definition gives of the node's tree. Assumes nothing.
+-- The value rules: what the code's steps give is what the definition gives of the node's tree.
 use mathlib.Core.Path.{_≡_, refl, sym, ap, subst, _∙_}
 use mathlib.Core.Bool.{true, false}
 use mathlib.Core.List.{List}
-use Prim.Native.Nat.{ℕ, _-_, _<_, _≤_}
+use Prim.Native.Nat.{ℕ, _-_, _≤_}
 use native.Mathlib.Omega.{arith as numbers}
 use lib.ListN.{length, take}
 use lib.Seq.{length-take-le}
@@ -20,14 +20,14 @@ use Rattle.emit.specs.declared.state.Ans.the-variants.{Got, No}
 use Rattle.emit.specs.declared.jump.Jumps.{Jumps}
 use Rattle.emit.specs.declared.jump.Jumps.the-variants as J
 use Rattle.fold.specs.declared.Tail.{Tail}
-use Rattle.fold.specs.declared.Fold.the-variants.{Into, General}
+use Rattle.fold.specs.declared.Fold.the-variants.{Into}
 use Rattle.emit.specs.State.{Res, bind, State, here, destD}
 use Rattle.emit.specs.Jump.{patchD}
-use Rattle.fold.specs.Fold.{opFold}
+use Rattle.fold.specs.Nodes.{opFold}
 use Rattle.fold.specs.Opcodes.{threeOf}
 use Rattle.emit.specs.Steps.{leafD, tailTo, threeTo, moveTo}
 use Rattle.emit.specs.Jump.{boolD, turnD}
-use Rattle.emit.specs.Read.{Bufs, bufs, stOf, Fit, Says, Steps, After}
+use Rattle.emit.specs.Read.{Bufs, bufs, stOf, Says, Steps, After}
 use Rattle.emit.specs.Lists.{Lists}
 use Rattle.fold.specs.Nodes.{Operand}
 use Rattle.codegen.specs.Gen.{gen, leafV, oneV, twoV, intoD, condV, armsD, ternaryV}

@@ -1,4 +1,4 @@
--- What the proof of each rule cites at its calls: the measure falls, and a callee finds what it asks. Assumes nothing.
+-- What the proof of each rule cites at its calls: the measure falls, and a callee finds what it asks.
 use mathlib.Core.Path.{_≡_, refl, sym, ap, subst, _∙_}
 use mathlib.Core.Bool.{Bool, true, false, cond}
 use mathlib.Core.List.{List}
@@ -9,10 +9,9 @@ use native.Mathlib.Omega.{arith}
 use lib.Dec.{leb, eqb, lit≤}
 use borrow.Author.Needs.{needs}
 use borrow.Author.Tests.{le-leb, lt-leb}
-use Rattle.faults.specs.Limits.{maxRegisters}
 use Rattle.table.specs.Table.{kindAt, depthAt, child1, nodeCount}
-use Rattle.table.specs.Nodes.{Node, Child, Inner, ChildIs}
-use Rattle.table.specs.Tree.{Unary, Cmp, cmp, Tree, tree}
+use Rattle.table.specs.Nodes.{Child, Inner, ChildIs}
+use Rattle.table.specs.Tree.{Unary, cmp, Tree, tree}
 use Rattle.table.specs.Tree as Tree
 use Rattle.table.proofs.Trees.{View, is-leaf, is-unary, is-binary, is-ternary, view, unary-in}
 use Rattle.table.proofs.Arities.{binary-code, cmp-codes}
@@ -23,18 +22,16 @@ use Rattle.emit.specs.declared.state.Ans.the-variants.{Got}
 use Rattle.emit.specs.declared.jump.Jumps.{Jumps}
 use Rattle.emit.specs.declared.jump.Jumps.the-variants as J
 use Rattle.fold.specs.declared.Tail.{Tail}
-use Rattle.fold.specs.declared.Fold.{Fold}
-use Rattle.fold.specs.declared.Fold.the-variants.{Into, General}
+use Rattle.fold.specs.declared.Fold.the-variants.{General}
 use Rattle.fold.specs.declared.How.{How}
 use Rattle.fold.specs.declared.Test.{Test}
 use Rattle.fold.specs.declared.Test.the-variants as T
 use Rattle.emit.specs.State.{Res, State, destD}
-use Rattle.fold.specs.Fold.{opFold, Picked, one, both, pickOf}
-use Rattle.fold.specs.Opcodes.{isComparison, isJunction}
-use Rattle.emit.specs.Read.{Bufs, bufs, Fit, Says, Steps, LeafReady}
+use Rattle.fold.specs.Fold.{Picked, one, two}
+use Rattle.emit.specs.Read.{bufs, Fit, Says, Steps, LeafReady}
 use Rattle.emit.specs.Lists.{Lists}
-use Rattle.fold.specs.Nodes.{Operand, Operator, Tested, TestIs}
-use Rattle.codegen.specs.Rules.{Ready, IsOperator}
+use Rattle.fold.specs.Nodes.{Operand, Operator, Tested, TestIs, opFold, pickOf, isComparison, isJunction}
+use Rattle.codegen.specs.Rules.{Ready}
 use Rattle.emit.proofs.Laws.{kept}
 use Rattle.codegen.proofs.Parts.{kept-jumps}
 
@@ -227,12 +224,12 @@ module _ {ws c k : List ℕ} {i : ℕ} {st : St} (ready : Ready (bufs ws c k) i 
       folds a Tree.not′ e = absurd (let z : _≡_ {A = ℕ} 0 1 = cc in omega arith)
 
   -- only a comparison has two operands to compare
-  pub pair-kind : (sense : Bool) → pickOf (tree ws i) sense ≡ both → (17 < kindAt ws i) × (kindAt ws i ≤ 23)
+  pub pair-kind : (sense : Bool) → pickOf (tree ws i) sense ≡ two → (17 < kindAt ws i) × (kindAt ws i ≤ 23)
   unfolding pickOf
   pair-kind sense e = by (view (ready .node))
     where
       clash : {A : Type 0} {u : Tree} {how : How} → tree ws i ≡ u → pickOf u sense ≡ one u how → A
-      clash p q = let z : one _ _ ≡ both = sym q ∙ sym (ap (λ (a : Tree). pickOf a sense) p) ∙ e in absurd (let z : _≡_ {A = ℕ} 0 1 = cc in omega arith)
+      clash p q = let z : one _ _ ≡ two = sym q ∙ sym (ap (λ (a : Tree). pickOf a sense) p) ∙ e in absurd (let z : _≡_ {A = ℕ} 0 1 = cc in omega arith)
 
       by : {n : ℕ} → View ws (ready .base) i n → (17 < kindAt ws i) × (kindAt ws i ≤ 23)
       by (is-leaf f v) = clash (v .is) refl
@@ -279,8 +276,8 @@ module _ {k v : ℕ} (is : k ≡ v) where
   junction-found e h = ap isJunction (sym is) ∙ sym e ∙ h
 
 -- what a test takes in, as the code found it
-module _ (ws : List ℕ) (i : ℕ) (p : Picked) {r : Test} where
-  pub picked-both : r ≡ T.Two → TestIs ws i r p → p ≡ both
+module _ (ws : List ℕ) (i : ℕ) (p : Picked Tree) {r : Test} where
+  pub picked-both : r ≡ T.Two → TestIs ws i r p → p ≡ two
   picked-both e h = subst (λ (q : Test). TestIs ws i q p) e h
 
   pub picked-one : {j : ℕ} {how : How} → r ≡ T.One j how → TestIs ws i r p → (p ≡ one (tree ws j) how) × (Tested ws i j)

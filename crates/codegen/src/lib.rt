@@ -1,2 +1,2 @@
-// The generator: value, branch and move rules (`rules`), by the definition in specs/Gen.
+// The generator: the value, branch and move rules (`rules`). What they emit is defined in specs/Gen.
 pub mod rules;

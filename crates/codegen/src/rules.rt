@@ -1,6 +1,6 @@
-// The value, branch and move rules. Each says what it emits for the node i of an accepted table; what follows its last call of another rule
-// is done in a routine that calls none, so that little is carried across a call. `gen_operand`, `gen_jumps` and `gen_not` are calls in routines of
-// their own: the compiler takes them in, and what one call needs of the stack serves the next call too (docs/STACK.md).
+// The value, branch and move rules, which call one another as in the Rust. Each emits what the tree at node i of an accepted table asks for. What follows
+// the last call of a rule is done in a routine of `emit` that calls no rule, so that little is carried across a call. `gen_operand`, `gen_jumps` and
+// `gen_not` are calls in routines of their own: the compiler inlines them, and then the stack slots of one call serve the next too (docs/STACK.md).
 use emit::jump::Jumps;
 use emit::jump::gen_bool;
 use emit::jump::join;
@@ -26,13 +26,14 @@ use fold::operand_of;
 use fold::test_of;
 ghost use Prim.Native.Nat.{_≤_};
 ghost use lib.ListN.{length, take};
-ghost use Rattle.table.specs.Table.{child1, child2};
-ghost use Rattle.emit.specs.Read.{bufs, stOf, Says};
-ghost use Rattle.emit.specs.Lists.{Lists};
-ghost use Rattle.codegen.specs.Gen.{armsD, intoD};
-ghost use Rattle.codegen.specs.Rules.{valueAt, branchAt, Ready, IsOperator, IsGeneral, IsCondition, IsTernary, IsNot, IsTest, IsPair, IsJunction};
+ghost use Rattle.emit.specs.Read.{bufs};
+ghost use Rattle.codegen.specs.Gen.{intoD};
+ghost use Rattle.codegen.specs.Rules.{valueAt, branchAt, armsAt, Ready, GivesValue, GivesJumps};
+ghost use Rattle.codegen.specs.Rules.{IsOperator, IsGeneral, IsCondition, IsTernary, IsNot, IsTest, IsPair, IsJunction};
 
-// The value of node i. An expression that has to write somewhere writes to dst; a Ref answers its own register.
+// Generates the value of node i, and answers the register that holds it. `dst` is a hint: an expression that has to write somewhere writes there, but one
+// whose value already sits in a register hands that register back untouched. Callers that need the value in a specific register go through `gen_into`.
+// A condition used as a value is built from the branch that it would compile to, so that the two shapes agree (`is_cond_op` in the Rust: kinds 18 to 25).
 pub fn gen_code_inner(
     nodes: &[u64],
     code: &mut [u64],
@@ -43,14 +44,14 @@ pub fn gen_code_inner(
     st: St,
 ) -> Ans
     requires { ⌜ Ready (bufs (now nodes) (now code) (now slots)) i st ⌝ }
-    ensures { λ r. ⌜ Says (bufs (now (nodes .entry)) (now (code .exit)) (now (slots .exit))) r (valueAt (now (nodes .entry)) i dst (length (now (jumps .entry))) (stOf (bufs (now (nodes .entry)) (now (code .entry)) (now (slots .entry))) st)) ⌝ }
+    ensures { λ r. ⌜ GivesValue nodes code slots jumps st r (valueAt (now (nodes .entry)) i dst) ⌝ }
 {
     let k = table::kind_at(nodes, i);
     if k <= table::REF {
         return gen_value(nodes, code, slots, i, dst, st);
     }
     if k <= table::MOD {
-        return gen_bin_op(nodes, code, slots, jumps, i, dst, st);
+        return gen_operator(nodes, code, slots, jumps, i, dst, st);
     }
     if k <= table::OR {
         return gen_cond_value(nodes, code, slots, jumps, i, dst, st);
@@ -58,7 +59,7 @@ pub fn gen_code_inner(
     gen_ternary(nodes, code, slots, jumps, i, dst, st)
 }
 
-// An operand: the value of node i, in any register.
+// An operand: the value of node i, in any register. Never the destination, which may be a local that an operand still to come reads.
 fn gen_operand(
     nodes: &[u64],
     code: &mut [u64],
@@ -68,13 +69,14 @@ fn gen_operand(
     st: St,
 ) -> Ans
     requires { ⌜ Ready (bufs (now nodes) (now code) (now slots)) i st ⌝ }
-    ensures { λ r. ⌜ Says (bufs (now (nodes .entry)) (now (code .exit)) (now (slots .exit))) r (valueAt (now (nodes .entry)) i Dst.Any (length (now (jumps .entry))) (stOf (bufs (now (nodes .entry)) (now (code .entry)) (now (slots .entry))) st)) ⌝ }
+    ensures { λ r. ⌜ GivesValue nodes code slots jumps st r (valueAt (now (nodes .entry)) i Dst.Any) ⌝ }
 {
     gen_code_inner(nodes, code, slots, jumps, i, Dst::Any, st)
 }
 
-// An operator: its one operand and the instruction that takes in the rest, or, if no immediate fits, the general form.
-fn gen_bin_op(
+// An operator that is no condition, Minus and Not included (`gen_bin_op` in the Rust has the binary ones): its one operand and the instruction that takes in
+// the rest, or, if no immediate fits, the general form.
+fn gen_operator(
     nodes: &[u64],
     code: &mut [u64],
     slots: &mut [u64],
@@ -84,7 +86,7 @@ fn gen_bin_op(
     st: St,
 ) -> Ans
     requires { ⌜ (Ready (bufs (now nodes) (now code) (now slots)) i st) × (IsOperator (now nodes) i) ⌝ }
-    ensures { λ r. ⌜ Says (bufs (now (nodes .entry)) (now (code .exit)) (now (slots .exit))) r (valueAt (now (nodes .entry)) i dst (length (now (jumps .entry))) (stOf (bufs (now (nodes .entry)) (now (code .entry)) (now (slots .entry))) st)) ⌝ }
+    ensures { λ r. ⌜ GivesValue nodes code slots jumps st r (valueAt (now (nodes .entry)) i dst) ⌝ }
 {
     let f = fold_of(nodes, i);
     let Fold::Into(tail) = f else {
@@ -95,7 +97,7 @@ fn gen_bin_op(
     put_tail(code, tail, dst, st.next, x)
 }
 
-// Both operands, then the instruction of two registers.
+// The general form: both operands, left before right, then the instruction of two registers.
 fn gen_two(
     nodes: &[u64],
     code: &mut [u64],
@@ -106,7 +108,7 @@ fn gen_two(
     st: St,
 ) -> Ans
     requires { ⌜ (Ready (bufs (now nodes) (now code) (now slots)) i st) × (IsGeneral (now nodes) i) ⌝ }
-    ensures { λ r. ⌜ Says (bufs (now (nodes .entry)) (now (code .exit)) (now (slots .exit))) r (valueAt (now (nodes .entry)) i dst (length (now (jumps .entry))) (stOf (bufs (now (nodes .entry)) (now (code .entry)) (now (slots .entry))) st)) ⌝ }
+    ensures { λ r. ⌜ GivesValue nodes code slots jumps st r (valueAt (now (nodes .entry)) i dst) ⌝ }
 {
     let x = gen_operand(nodes, code, slots, jumps, table::child_2(nodes, i), st);
     let Ans::Got(a, s) = x else {
@@ -116,7 +118,8 @@ fn gen_two(
     put_three(code, three_of(table::kind_at(nodes, i)), a, dst, st.next, y)
 }
 
-// A condition as a value: branch if true; load False; jmp; load True.
+// Materializes a condition as a boolean value: its register, its branch if true, then the two loads. The register is taken first, so that it is below
+// what the branch needs.
 fn gen_cond_value(
     nodes: &[u64],
     code: &mut [u64],
@@ -127,7 +130,7 @@ fn gen_cond_value(
     st: St,
 ) -> Ans
     requires { ⌜ (Ready (bufs (now nodes) (now code) (now slots)) i st) × (IsCondition (now nodes) i) ⌝ }
-    ensures { λ r. ⌜ Says (bufs (now (nodes .entry)) (now (code .exit)) (now (slots .exit))) r (valueAt (now (nodes .entry)) i dst (length (now (jumps .entry))) (stOf (bufs (now (nodes .entry)) (now (code .entry)) (now (slots .entry))) st)) ⌝ }
+    ensures { λ r. ⌜ GivesValue nodes code slots jumps st r (valueAt (now (nodes .entry)) i dst) ⌝ }
 {
     let x = dest(dst, st);
     let Ans::Got(d, s) = x else {
@@ -140,7 +143,7 @@ fn gen_cond_value(
     }
 }
 
-// A ternary: both arms land in one register, which is taken first.
+// A ternary. Both arms have to land in the same register, so it is taken first.
 fn gen_ternary(
     nodes: &[u64],
     code: &mut [u64],
@@ -151,7 +154,7 @@ fn gen_ternary(
     st: St,
 ) -> Ans
     requires { ⌜ (Ready (bufs (now nodes) (now code) (now slots)) i st) × (IsTernary (now nodes) i) ⌝ }
-    ensures { λ r. ⌜ Says (bufs (now (nodes .entry)) (now (code .exit)) (now (slots .exit))) r (valueAt (now (nodes .entry)) i dst (length (now (jumps .entry))) (stOf (bufs (now (nodes .entry)) (now (code .entry)) (now (slots .entry))) st)) ⌝ }
+    ensures { λ r. ⌜ GivesValue nodes code slots jumps st r (valueAt (now (nodes .entry)) i dst) ⌝ }
 {
     let x = dest(dst, st);
     let Ans::Got(d, s) = x else {
@@ -172,7 +175,8 @@ fn gen_ternary(
     }
 }
 
-// The arms of the ternary at node i, whose test has n jumps in the list: the later part of the list goes to the then side.
+// The arms of the ternary at node i, whose test has n jumps pending at the front of the list: the later part of the list goes to the then side. The else
+// side gets the whole list, since the test's jumps are patched by then.
 fn gen_arms(
     nodes: &[u64],
     code: &mut [u64],
@@ -184,7 +188,7 @@ fn gen_arms(
     st: St,
 ) -> Ans
     requires { ⌜ (Ready (bufs (now nodes) (now code) (now slots)) i st) × (IsTernary (now nodes) i) × (n ≤ length (now jumps)) ⌝ }
-    ensures { λ r. ⌜ Says (bufs (now (nodes .entry)) (now (code .exit)) (now (slots .exit))) r (armsD (valueAt (now (nodes .entry)) (child2 (now (nodes .entry)) i)) (valueAt (now (nodes .entry)) (child1 (now (nodes .entry)) i)) d (length (now (jumps .entry))) (take n (now (jumps .entry)), stOf (bufs (now (nodes .entry)) (now (code .entry)) (now (slots .entry))) st)) ⌝ }
+    ensures { λ r. ⌜ GivesValue nodes code slots jumps st r (armsAt (now (nodes .entry)) i d (take n (now (jumps .entry)))) ⌝ }
 {
     let x = gen_into(
         nodes,
@@ -207,7 +211,7 @@ fn gen_arms(
     settle(code, p, d, z)
 }
 
-// The value of node i in the register d.
+// Generates the value of node i into the register d: a mov follows where the value already sat in another one.
 pub fn gen_into(
     nodes: &[u64],
     code: &mut [u64],
@@ -218,13 +222,15 @@ pub fn gen_into(
     st: St,
 ) -> Ans
     requires { ⌜ Ready (bufs (now nodes) (now code) (now slots)) i st ⌝ }
-    ensures { λ r. ⌜ Says (bufs (now (nodes .entry)) (now (code .exit)) (now (slots .exit))) r (intoD (valueAt (now (nodes .entry)) i) d (length (now (jumps .entry))) (stOf (bufs (now (nodes .entry)) (now (code .entry)) (now (slots .entry))) st)) ⌝ }
+    ensures { λ r. ⌜ GivesValue nodes code slots jumps st r (intoD (valueAt (now (nodes .entry)) i) d) ⌝ }
 {
     let x = gen_code_inner(nodes, code, slots, jumps, i, Dst::To(d), st);
     put_mov(code, d, st.next, x)
 }
 
-// Jumps that are taken where node i is `sense`; their positions stand at the list's front.
+// Emits a test that transfers control when node i evaluates to `sense`, and answers the jumps that have to be patched to the target; their positions stand
+// at the front of the list. A comparison compiles straight into a conditional branch here, rather than being materialized into a boolean that is then
+// tested.
 fn gen_branch(
     nodes: &[u64],
     code: &mut [u64],
@@ -235,7 +241,7 @@ fn gen_branch(
     st: St,
 ) -> Jumps
     requires { ⌜ Ready (bufs (now nodes) (now code) (now slots)) i st ⌝ }
-    ensures { λ r. ⌜ Lists (bufs (now (nodes .entry)) (now (code .exit)) (now (slots .exit))) (now (jumps .exit)) r (branchAt (now (nodes .entry)) i sense (length (now (jumps .entry))) (stOf (bufs (now (nodes .entry)) (now (code .entry)) (now (slots .entry))) st)) ⌝ }
+    ensures { λ r. ⌜ GivesJumps nodes code slots jumps st r (branchAt (now (nodes .entry)) i sense) ⌝ }
 {
     let k = table::kind_at(nodes, i);
     if k == table::NOT {
@@ -247,7 +253,7 @@ fn gen_branch(
     gen_test(nodes, code, slots, jumps, i, sense, st)
 }
 
-// The jumps of a condition, of a test, or of a side of And or Or: those of node i.
+// The branch of a condition, of a ternary's test, or of a side of And or Or.
 fn gen_jumps(
     nodes: &[u64],
     code: &mut [u64],
@@ -258,12 +264,12 @@ fn gen_jumps(
     st: St,
 ) -> Jumps
     requires { ⌜ Ready (bufs (now nodes) (now code) (now slots)) i st ⌝ }
-    ensures { λ r. ⌜ Lists (bufs (now (nodes .entry)) (now (code .exit)) (now (slots .exit))) (now (jumps .exit)) r (branchAt (now (nodes .entry)) i sense (length (now (jumps .entry))) (stOf (bufs (now (nodes .entry)) (now (code .entry)) (now (slots .entry))) st)) ⌝ }
+    ensures { λ r. ⌜ GivesJumps nodes code slots jumps st r (branchAt (now (nodes .entry)) i sense) ⌝ }
 {
     gen_branch(nodes, code, slots, jumps, i, sense, st)
 }
 
-// Not: its operand's jumps, with the sense turned round.
+// Negation folds into the sense of the branch.
 fn gen_not(
     nodes: &[u64],
     code: &mut [u64],
@@ -274,7 +280,7 @@ fn gen_not(
     st: St,
 ) -> Jumps
     requires { ⌜ (Ready (bufs (now nodes) (now code) (now slots)) i st) × (IsNot (now nodes) i) ⌝ }
-    ensures { λ r. ⌜ Lists (bufs (now (nodes .entry)) (now (code .exit)) (now (slots .exit))) (now (jumps .exit)) r (branchAt (now (nodes .entry)) i sense (length (now (jumps .entry))) (stOf (bufs (now (nodes .entry)) (now (code .entry)) (now (slots .entry))) st)) ⌝ }
+    ensures { λ r. ⌜ GivesJumps nodes code slots jumps st r (branchAt (now (nodes .entry)) i sense) ⌝ }
 {
     gen_branch(
         nodes,
@@ -287,7 +293,8 @@ fn gen_not(
     )
 }
 
-// A comparison, or a value that is tested as a boolean. A comparison takes in a literal; if it has none, both sides are in registers.
+// A comparison, or anything else, which is evaluated and tested as a boolean. A comparison takes in a literal of 16 bits; if it has none, both sides are
+// generated.
 fn gen_test(
     nodes: &[u64],
     code: &mut [u64],
@@ -298,7 +305,7 @@ fn gen_test(
     st: St,
 ) -> Jumps
     requires { ⌜ (Ready (bufs (now nodes) (now code) (now slots)) i st) × (IsTest (now nodes) i) ⌝ }
-    ensures { λ r. ⌜ Lists (bufs (now (nodes .entry)) (now (code .exit)) (now (slots .exit))) (now (jumps .exit)) r (branchAt (now (nodes .entry)) i sense (length (now (jumps .entry))) (stOf (bufs (now (nodes .entry)) (now (code .entry)) (now (slots .entry))) st)) ⌝ }
+    ensures { λ r. ⌜ GivesJumps nodes code slots jumps st r (branchAt (now (nodes .entry)) i sense) ⌝ }
 {
     let t = test_of(nodes, i, sense);
     let Test::One(j, how) = t else {
@@ -308,7 +315,7 @@ fn gen_test(
     jump_one(code, jumps, how, st.next, x)
 }
 
-// Both operands of the comparison at node i, then the branch that compares them.
+// Both operands of the comparison at node i, left before right, then the branch that compares them.
 fn gen_pair(
     nodes: &[u64],
     code: &mut [u64],
@@ -319,7 +326,7 @@ fn gen_pair(
     st: St,
 ) -> Jumps
     requires { ⌜ (Ready (bufs (now nodes) (now code) (now slots)) i st) × (IsPair (now nodes) i sense) ⌝ }
-    ensures { λ r. ⌜ Lists (bufs (now (nodes .entry)) (now (code .exit)) (now (slots .exit))) (now (jumps .exit)) r (branchAt (now (nodes .entry)) i sense (length (now (jumps .entry))) (stOf (bufs (now (nodes .entry)) (now (code .entry)) (now (slots .entry))) st)) ⌝ }
+    ensures { λ r. ⌜ GivesJumps nodes code slots jumps st r (branchAt (now (nodes .entry)) i sense) ⌝ }
 {
     let x = gen_operand(nodes, code, slots, jumps, table::child_2(nodes, i), st);
     match x {
@@ -338,7 +345,8 @@ fn gen_pair(
     }
 }
 
-// And, which a false side decides, and Or, which a true one does: the later part of the list goes to the right operand.
+// Short-circuiting operators branch directly, with no boolean in between: And, which a false left side decides, and Or, which a true one does (`by`). One of
+// the two senses needs the first test to skip over the second, which `join` patches. The later part of the list goes to the right side.
 fn gen_junction(
     nodes: &[u64],
     code: &mut [u64],
@@ -350,7 +358,7 @@ fn gen_junction(
     st: St,
 ) -> Jumps
     requires { ⌜ (Ready (bufs (now nodes) (now code) (now slots)) i st) × (IsJunction (now nodes) i by) ⌝ }
-    ensures { λ r. ⌜ Lists (bufs (now (nodes .entry)) (now (code .exit)) (now (slots .exit))) (now (jumps .exit)) r (branchAt (now (nodes .entry)) i sense (length (now (jumps .entry))) (stOf (bufs (now (nodes .entry)) (now (code .entry)) (now (slots .entry))) st)) ⌝ }
+    ensures { λ r. ⌜ GivesJumps nodes code slots jumps st r (branchAt (now (nodes .entry)) i sense) ⌝ }
 {
     let x = gen_jumps(nodes, code, slots, jumps, table::child_2(nodes, i), by, st);
     let Jumps::Are(n, s) = x else {

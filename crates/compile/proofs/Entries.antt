@@ -1,10 +1,10 @@
--- What the proofs of `generate`, `compile` and `compile_with` cite: what a checked table gives, from the root's answer. Assumes nothing.
+-- What the proofs of `generate`, `compile` and `compile_with` cite: what a checked table gives, from the root's answer.
 use mathlib.Core.Path.{_≡_, refl, sym, ap, subst, _∙_}
-use mathlib.Core.List.{List, [], _∷_, _++_, map}
-use Prim.Native.Nat.{ℕ, zero, suc, _+_, _*_, _-_, _<_, _≤_, min}
+use mathlib.Core.List.{List, [], _++_, map}
+use Prim.Native.Nat.{ℕ, zero, suc, _+_, _*_, _-_, _≤_, min}
 use native.Mathlib.Nat.{min-le-left, min-le-right}
 use native.Mathlib.Omega.{arith}
-use lib.ListN.{length, take, drop, getD, replicate, length-append, length-drop, List·getD-append}
+use lib.ListN.{length, take, drop, replicate, length-append, length-drop, List·getD-append}
 use lib.Seq.{length-take-le, take-append-le}
 use Rattle.faults.specs.Limits.{maxNodes, maxRegisters}
 use Rattle.table.specs.declared.Dest.{Dest}
@@ -21,11 +21,12 @@ use Rattle.emit.specs.declared.state.Dst.the-variants.{Any, To}
 use Rattle.emit.specs.declared.state.Ans.{Ans}
 use Rattle.emit.specs.declared.state.Ans.the-variants.{Got, No}
 use Rattle.emit.specs.State.{Res, done, fail, State}
-use Rattle.emit.specs.Read.{Bufs, bufs, stOf, constAt, read, Fit, Says}
+use Rattle.emit.specs.Read.{bufs, stOf, constAt, read, Fit, Says}
 use Rattle.codegen.specs.Gen.{gen}
-use Rattle.compile.specs.Compile.{start, dstOf, rootD, generated, accepted, compileOf, Root, IsRegister}
-use Rattle.compile.specs.Buffers.{padded, zeroed, Made, Compiles}
-use Rattle.emit.proofs.Laws.{kept, says-by}
+use Rattle.compile.specs.Compile.{start, dstOf, rootD, generated, accepted, compileOf}
+use Rattle.compile.specs.Buffers.{padded, Compiles}
+use Rattle.compile.specs.Parts.{Root, IsRegister, zeroed, Emitted}
+use Rattle.emit.proofs.Laws.{kept}
 use Rattle.codegen.proofs.Room.{same-room, into-same}
 
 -- ---- a checked table
@@ -71,8 +72,8 @@ module _ {t c m : List ℕ} (rest : List ℕ) {s : St} (f : Fit (bufs t c m) s) 
   same-slots : take (s .slots) (m ++ rest) ≡ take (s .slots) m
   same-slots = take-append-le (s .slots) m rest (f .consts)
 
-pub made : (kinds p : List ℕ) (n : ℕ) {t c m : List ℕ} {s : St} → Fit (bufs t c m) s → length m ≡ length (take n p) → n ≡ min (length kinds) (length p) → Made t c kinds (m ++ drop n p) s
-made kinds p n {m = m} f l e =
+pub emitted : (kinds p : List ℕ) (n : ℕ) {t c m : List ℕ} {s : St} → Fit (bufs t c m) s → length m ≡ length (take n p) → n ≡ min (length kinds) (length p) → Emitted t c kinds (m ++ drop n p) s
+emitted kinds p n {m = m} f l e =
     let a = f .consts in
     let b = front-length n p m l (smaller-right (length kinds) (length p) e) in
     let d = smaller-left (length kinds) (length p) e in
@@ -94,10 +95,10 @@ module _ {t c m : List ℕ} {x : Ans} {g : Res (ℕ × State)} (says : Says (buf
         slotKinds = subst (λ (z : List ℕ). k2 ≡ padded (map kindOf (map (constAt t) z)) lk) w (h .slotKinds);
         slotPayloads = subst (λ (z : List ℕ). p2 ≡ padded (map payloadOf (map (constAt t) z)) lp) w (h .slotPayloads);
       } in
-      subst (λ (y : Res (ℕ × State)). Compiles q y c2 k2 p2 lc lk lp) (ap (read (bufs t c m)) (sym e) ∙ says .same) d
+      subst (λ (y : Res (ℕ × State)). Compiles q y c2 k2 p2 lc lk lp) (ap (read (bufs t c m)) (sym e) ∙ says .is) d
 
   pub generated-refused : {n : ℕ} → x ≡ No n → Compiles q (fail n) c2 k2 p2 lc lk lp → Compiles q g c2 k2 p2 lc lk lp
-  generated-refused e h = subst (λ (y : Res (ℕ × State)). Compiles q y c2 k2 p2 lc lk lp) (ap (read (bufs t c m)) (sym e) ∙ says .same) h
+  generated-refused e h = subst (λ (y : Res (ℕ × State)). Compiles q y c2 k2 p2 lc lk lp) (ap (read (bufs t c m)) (sym e) ∙ says .is) h
 
 -- the root's answer is the definition's
 pub root-generated : (tr : Tree) (dest : Dest) (base room cap : ℕ) {slotCap n b : ℕ} {dst : Dst} → dst ≡ dstOf dest → b ≡ tempBase base → n ≡ slotCap →

@@ -1,4 +1,4 @@
--- The laws that the proofs of compile cite.
-pub mod Parts
+-- The laws that the proofs of `compile` cite.
 pub mod Roots
 pub mod Entries
+pub mod Once

@@ -1,4 +1,4 @@
--- The destination and the root. Assumes nothing.
+-- The destination and the root.
 use mathlib.Core.Path.{_≡_, sym, ap, subst}
 use mathlib.Core.List.{List}
 use Prim.Native.Nat.{ℕ, _-_, _≤_}
@@ -14,7 +14,8 @@ use Rattle.emit.specs.State.{State}
 use Rattle.emit.specs.Read.{Bufs, bufs, Says}
 use Rattle.codegen.specs.Gen.{Value, intoD}
 use Rattle.codegen.specs.Rules.{Ready}
-use Rattle.compile.specs.Compile.{Root, IsRegister, dstOf, rootD}
+use Rattle.compile.specs.Compile.{dstOf, rootD}
+use Rattle.compile.specs.Parts.{Root, IsRegister}
 use Rattle.emit.proofs.Laws.{says-by}
 
 pub register-fits : {dest : Dest} {r : ℕ} → dest ≡ D.Reg r → IsRegister dest → r ≤ maxRegisters

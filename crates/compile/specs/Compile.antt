@@ -1,11 +1,9 @@
--- What compiling a node table makes, or the number of its refusal; what is answered and left behind is in `buffers`. Assumes nothing: these are definitions.
+-- What compiling a node table makes, or the number of its refusal. What is answered and left in the lent buffers is in Buffers.
 use mathlib.Core.List.{List, []}
-use Prim.Native.Nat.{ℕ, zero, suc, _+_, _-_, _≤_}
-use Rattle.faults.specs.Limits.{maxRegisters}
+use Prim.Native.Nat.{ℕ, zero, suc, _+_, _-_}
 use Rattle.table.specs.declared.Dest.{Dest}
 use Rattle.table.specs.declared.Dest.the-variants as D
 use Rattle.table.specs.Table.{nodeCount, tempBase, checkOf}
-use Rattle.table.specs.Nodes.{Node}
 use Rattle.table.specs.Tree.{Tree, tree}
 use Rattle.emit.specs.declared.state.Dst.{Dst}
 use Rattle.emit.specs.declared.state.Dst.the-variants.{Any, To}
@@ -38,16 +36,3 @@ accepted (suc n) m = fail (suc n)
 unfoldable pub compileOf : List ℕ → ℕ → ℕ → Dest → ℕ → ℕ → ℕ → Res (ℕ × State)
 compileOf ws params locals dest room cap slotCap =
     accepted (checkOf ws params locals dest) (generated (tree ws (nodeCount ws - 1)) dest (params + locals) room cap slotCap)
-
--- ---- the parts
-
--- the last node is a node of an accepted table, whose registers are below 65,536
-pub record Root (t : List ℕ) : Type 0 where
-  pub base : ℕ
-  pub node : Node t base (nodeCount t - 1)
-  pub low : base ≤ maxRegisters
-
--- a destination is a register
-abbrev pub IsRegister : Dest → Type 0
-IsRegister D.None = Unit {0}
-IsRegister (D.Reg r) = r ≤ maxRegisters

@@ -1,4 +1,5 @@
-// What compiling answers, and what it leaves in the lent buffers: the constants in their slots, and zeros after what was made.
+// What compiling answers, and what it leaves in the lent buffers: the words, the constants in their slots, and zeros after them; after a refusal zeros
+// alone, so that nothing of a refused expression can be run by mistake.
 use emit::state::St;
 ghost use mathlib.Core.Path.{_≡_};
 ghost use Prim.Native.Nat.{_<_, _≤_};
@@ -6,7 +7,8 @@ ghost use lib.ListN.{length};
 ghost use Rattle.table.specs.Table.{nodeCount};
 ghost use Rattle.emit.specs.State.{done, fail};
 ghost use Rattle.emit.specs.Read.{bufs, stOf};
-ghost use Rattle.compile.specs.Buffers.{zeroed, slotKind, Named, Filled, Made, Compiles};
+ghost use Rattle.compile.specs.Buffers.{Compiles};
+ghost use Rattle.compile.specs.Parts.{zeroed, slotKind, Named, Filled, Emitted};
 
 // What compiling answers: how many words and constants, the register that holds the value and the frame's size; or the number of a refusal.
 pub enum Compiled {
@@ -14,7 +16,8 @@ pub enum Compiled {
     Refused(u8),
 }
 
-pub fn zero_from(a: &mut [u64], from: usize)
+// Zeroes what lies from a place on.
+pub(crate) fn zero_from(a: &mut [u64], from: usize)
     requires { ⌜ from ≤ length (now a) ⌝ }
     ensures { λ _. ⌜ now (a .exit) ≡ zeroed from (now (a .entry)) ⌝ }
 {
@@ -25,6 +28,7 @@ pub fn zero_from(a: &mut [u64], from: usize)
     }
 }
 
+// The same of bytes.
 fn zero_kinds(a: &mut [u8], from: usize)
     requires { ⌜ from ≤ length (now a) ⌝ }
     ensures { λ _. ⌜ now (a .exit) ≡ zeroed from (now (a .entry)) ⌝ }
@@ -47,7 +51,7 @@ fn slot_kind(nodes: &[u64], j: usize) -> u8
     3
 }
 
-// The constants of the nodes whose numbers stand in the payloads.
+// While words are made a slot holds the number of its literal's node (`push_const`): here it gets that literal's kind and payload.
 fn fill_slots(nodes: &[u64], kinds: &mut [u8], payloads: &mut [u64], n: usize)
     requires { ⌜ Named (now nodes) (now kinds) (now payloads) n ⌝ }
     ensures { λ _. ⌜ Filled (now (nodes .entry)) (now (payloads .entry)) (now (kinds .exit)) (now (payloads .exit)) n ⌝ }
@@ -61,8 +65,8 @@ fn fill_slots(nodes: &[u64], kinds: &mut [u8], payloads: &mut [u64], n: usize)
     }
 }
 
-// The words and constants are made: the slots get their constants, and what follows is zeroed.
-pub fn finish(
+// All words are made: the slots get their constants, and what follows is zeroed.
+pub(crate) fn finish(
     nodes: &[u64],
     code: &mut [u64],
     kinds: &mut [u8],
@@ -70,8 +74,12 @@ pub fn finish(
     r: u16,
     s: St,
 ) -> Compiled
-    requires { ⌜ Made (now nodes) (now code) (now kinds) (now payloads) s ⌝ }
-    ensures { λ q. ⌜ Compiles q (done (r, stOf (bufs (now (nodes .entry)) (now (code .entry)) (now (payloads .entry))) s)) (now (code .exit)) (now (kinds .exit)) (now (payloads .exit)) (length (now (code .entry))) (length (now (kinds .entry))) (length (now (payloads .entry))) ⌝ }
+    requires { ⌜ Emitted (now nodes) (now code) (now kinds) (now payloads) s ⌝ }
+    ensures { λ q. ⌜
+        Compiles q (done (r, stOf (bufs (now (nodes .entry)) (now (code .entry)) (now (payloads .entry))) s))
+        (now (code .exit)) (now (kinds .exit)) (now (payloads .exit))
+        (length (now (code .entry))) (length (now (kinds .entry))) (length (now (payloads .entry)))
+        ⌝ }
 {
     let w = s.count;
     let k = s.slots;
@@ -82,9 +90,12 @@ pub fn finish(
     Compiled::Done(w, k, r, s.frame)
 }
 
-// A refusal leaves nothing behind. Public for entries that refuse before they compile.
+// A refusal: its number, and all lent output zero. Public for entries that refuse before they compile.
 pub fn refuse(f: u8, code: &mut [u64], kinds: &mut [u8], payloads: &mut [u64]) -> Compiled
-    ensures { λ q. ⌜ Compiles q (fail f) (now (code .exit)) (now (kinds .exit)) (now (payloads .exit)) (length (now (code .entry))) (length (now (kinds .entry))) (length (now (payloads .entry))) ⌝ }
+    ensures { λ q. ⌜
+        Compiles q (fail f) (now (code .exit)) (now (kinds .exit)) (now (payloads .exit))
+        (length (now (code .entry))) (length (now (kinds .entry))) (length (now (payloads .entry)))
+        ⌝ }
 {
     zero_from(code, 0);
     zero_kinds(kinds, 0);

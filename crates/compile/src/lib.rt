@@ -1,4 +1,5 @@
-// Compiling a node table: the check, the rules, and what is left in the lent buffers (`buffers`).
+// Compiling a node table: the check, the rules, and what is left in the lent buffers (`buffers`). These are the generator's entries: they answer on any
+// words, and state every byte that they leave.
 pub mod buffers;
 
 use crate::buffers::Compiled;
@@ -17,10 +18,11 @@ ghost use lib.ListN.{length, replicate};
 ghost use Rattle.faults.specs.Limits.{maxNodes, maxRegisters};
 ghost use Rattle.table.specs.Table.{nodeCount, tempBase, checkOf};
 ghost use Rattle.table.specs.Tree.{tree};
-ghost use Rattle.emit.specs.Read.{bufs, stOf, Says};
+ghost use Rattle.emit.specs.Read.{bufs, Says};
 ghost use Rattle.codegen.specs.Rules.{valueAt};
 ghost use Rattle.compile.specs.Buffers.{Compiles};
-ghost use Rattle.compile.specs.Compile.{Root, IsRegister, dstOf, rootD, start, generated, compileOf};
+ghost use Rattle.compile.specs.Compile.{dstOf, rootD, start, generated, compileOf};
+ghost use Rattle.compile.specs.Parts.{Root, IsRegister};
 
 fn smaller(a: usize, b: usize) -> usize
     ensures { λ r. ⌜ r ≡ min a b ⌝ }
@@ -28,6 +30,7 @@ fn smaller(a: usize, b: usize) -> usize
     if a < b { a } else { b }
 }
 
+// The destination as the rules take it.
 fn dst_of(dest: Dest) -> Dst
     requires { ⌜ IsRegister dest ⌝ }
     ensures { λ r. ⌜ r ≡ dstOf dest ⌝ }
@@ -38,7 +41,8 @@ fn dst_of(dest: Dest) -> Dst
     }
 }
 
-// The temporaries start above the parameters and locals, and never at register 0.
+// The temporaries are placed above the variables, and never at register 0: the Rust reserves it, so that a function always makes the value stack grow
+// (`Regs::new`).
 fn temp_base(params: u64, locals: u64) -> u16
     requires { ⌜ params + locals ≤ maxRegisters ⌝ }
     ensures { λ r. ⌜ r ≡ tempBase (params + locals) ⌝ }
@@ -57,7 +61,11 @@ fn root(
     base: u16,
 ) -> Ans
     requires { ⌜ Root (now nodes) ⌝ }
-    ensures { λ r. ⌜ Says (bufs (now (nodes .entry)) (now (code .exit)) (now (slots .exit))) r (rootD (valueAt (now (nodes .entry)) (nodeCount (now (nodes .entry)) - 1)) dst (length (now (jumps .entry))) (start (length (now (code .entry))) (length (now (slots .entry))) base)) ⌝ }
+    ensures { λ r. ⌜
+        Says (bufs (now (nodes .entry)) (now (code .exit)) (now (slots .exit))) r
+        (rootD (valueAt (now (nodes .entry)) (nodeCount (now (nodes .entry)) - 1)) dst (length (now (jumps .entry)))
+        (start (length (now (code .entry))) (length (now (slots .entry))) base))
+        ⌝ }
 {
     let i = nodes.len() / 4 - 1;
     let st = St {
@@ -72,7 +80,7 @@ fn root(
     }
 }
 
-// A checked table, with a jump list.
+// A checked table, with a jump list. Kinds and payloads of unequal length: the shorter counts.
 fn generate(
     nodes: &[u64],
     params: u64,
@@ -84,7 +92,13 @@ fn generate(
     jumps: &mut [u64],
 ) -> Compiled
     requires { ⌜ checkOf (now nodes) params locals dest ≡ 0 ⌝ }
-    ensures { λ q. ⌜ Compiles q (generated (tree (now (nodes .entry)) (nodeCount (now (nodes .entry)) - 1)) dest (params + locals) (length (now (jumps .entry))) (length (now (code .entry))) (min (length (now (kinds .entry))) (length (now (payloads .entry))))) (now (code .exit)) (now (kinds .exit)) (now (payloads .exit)) (length (now (code .entry))) (length (now (kinds .entry))) (length (now (payloads .entry))) ⌝ }
+    ensures { λ q. ⌜
+        Compiles q
+        (generated (tree (now (nodes .entry)) (nodeCount (now (nodes .entry)) - 1)) dest (params + locals) (length (now (jumps .entry)))
+        (length (now (code .entry))) (min (length (now (kinds .entry))) (length (now (payloads .entry)))))
+        (now (code .exit)) (now (kinds .exit)) (now (payloads .exit))
+        (length (now (code .entry))) (length (now (kinds .entry))) (length (now (payloads .entry)))
+        ⌝ }
 {
     let n = smaller(kinds.len(), payloads.len());
     let x = root(
@@ -101,14 +115,15 @@ fn generate(
     }
 }
 
-// Half as many places as a table has nodes are enough for its jumps. A table of at most SMALL nodes gets a list that is cleared sooner.
+// Half as many places as a table has nodes are enough for its jumps (codegen's proofs/Room). A table of at most SMALL nodes gets a list that is cleared
+// sooner.
 const SMALL: usize = 64;
 
 const SMALL_JUMPS: usize = SMALL / 2;
 
 const ALL_JUMPS: usize = faults::MAX_NODES / 2;
 
-// Compiles a node table. A jump list with room for every accepted table comes with it.
+// Compiles a node table, with a jump list of its own that has room for every accepted table.
 pub fn compile(
     nodes: &[u64],
     params: u64,
@@ -118,7 +133,13 @@ pub fn compile(
     kinds: &mut [u8],
     payloads: &mut [u64],
 ) -> Compiled
-    ensures { λ q. ⌜ Compiles q (compileOf (now (nodes .entry)) params locals dest maxNodes (length (now (code .entry))) (min (length (now (kinds .entry))) (length (now (payloads .entry))))) (now (code .exit)) (now (kinds .exit)) (now (payloads .exit)) (length (now (code .entry))) (length (now (kinds .entry))) (length (now (payloads .entry))) ⌝ }
+    ensures { λ q. ⌜
+        Compiles q
+        (compileOf (now (nodes .entry)) params locals dest maxNodes
+        (length (now (code .entry))) (min (length (now (kinds .entry))) (length (now (payloads .entry)))))
+        (now (code .exit)) (now (kinds .exit)) (now (payloads .exit))
+        (length (now (code .entry))) (length (now (kinds .entry))) (length (now (payloads .entry)))
+        ⌝ }
 {
     let f = table::check::check(nodes, params, locals, dest);
     if f != faults::NONE {
@@ -141,7 +162,7 @@ pub fn compile(
     )
 }
 
-// The same with a jump list of the caller's, which is zeroed at the end: 7 where it runs out.
+// The same with a jump list of the caller's, which is left zero. Refuses with 7 where the list runs out.
 pub fn compile_with(
     nodes: &[u64],
     params: u64,
@@ -152,7 +173,13 @@ pub fn compile_with(
     payloads: &mut [u64],
     jumps: &mut [u64],
 ) -> Compiled
-    ensures { λ q. ⌜ Compiles q (compileOf (now (nodes .entry)) params locals dest (length (now (jumps .entry))) (length (now (code .entry))) (min (length (now (kinds .entry))) (length (now (payloads .entry))))) (now (code .exit)) (now (kinds .exit)) (now (payloads .exit)) (length (now (code .entry))) (length (now (kinds .entry))) (length (now (payloads .entry))) ⌝ }
+    ensures { λ q. ⌜
+        Compiles q
+        (compileOf (now (nodes .entry)) params locals dest (length (now (jumps .entry)))
+        (length (now (code .entry))) (min (length (now (kinds .entry))) (length (now (payloads .entry)))))
+        (now (code .exit)) (now (kinds .exit)) (now (payloads .exit))
+        (length (now (code .entry))) (length (now (kinds .entry))) (length (now (payloads .entry)))
+        ⌝ }
     ensures { λ _. ⌜ now (jumps .exit) ≡ replicate {A = ℕ} (length (now (jumps .entry))) 0 ⌝ }
 {
     let f = table::check::check(nodes, params, locals, dest);

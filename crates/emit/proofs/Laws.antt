@@ -1,12 +1,10 @@
--- Laws of the definition at a state that is read off the code's buffers. Assumes nothing.
-use mathlib.Core.Path.{_≡_, refl, sym, ap, subst, _∙_}
-use mathlib.Core.Bool.{Bool, true, false}
-use mathlib.Core.List.{List, [], _∷_, _++_}
-use Prim.Native.Nat.{ℕ, suc, _+_, _-_, _<_, _≤_, max}
+-- Laws of the definition at a state that is read off the code's buffers.
+use mathlib.Core.Path.{_≡_, sym, ap, _∙_}
+use mathlib.Core.List.{List, [], _∷_}
+use Prim.Native.Nat.{ℕ, _+_, _-_, _<_, _≤_, max}
 use native.Mathlib.Numerals.{add-one}
 use native.Mathlib.Omega.{arith}
-use lib.Dec.{ltb, eqb}
-use lib.ListN.{length, take, drop, set, getD, length-set}
+use lib.ListN.{length, take, set, length-set}
 use lib.Seq.{length-take-le, take-suc-set}
 use borrow.Author.Tests.{lt-ltb, le-ltb, eq-eqb, ne-eqb}
 use Rattle.faults.specs.Numbers.{noRegister, noRoom, noFit}
@@ -27,7 +25,7 @@ use Rattle.emit.specs.declared.state.Dst.the-variants.{Any, To}
 use Rattle.emit.specs.declared.state.Ans.{Ans}
 use Rattle.emit.specs.declared.state.Ans.the-variants.{Got, No}
 use Rattle.fold.specs.declared.Tail.{Tail}
-use Rattle.emit.specs.State.{Res, done, fail, bind, State, release, allocD, destD, storeD, emitD}
+use Rattle.emit.specs.State.{Res, bind, State, allocD, destD, storeD, emitD}
 use Rattle.fold.specs.Fold.{tailOp}
 use Rattle.emit.specs.Steps.{putD, putTo, moveTo}
 use Rattle.emit.specs.Read.{Bufs, bufs, stOf, freed, read, Fit, FitAns, Says, Steps, After}
@@ -37,49 +35,49 @@ use Rattle.emit.specs.Read.{Bufs, bufs, stOf, freed, read, Fit, FitAns, 
 module _ {b : Bufs} {x : Ans} {m : Res (ℕ × State)} where
   -- what was got goes on
   pub go : {B : Type 0} (k : ℕ × State → Res B) {d : ℕ} {s : St} → x ≡ Got d s → Says b x m → k (d, stOf b s) ≡ bind m k
-  go k e h = rw (← h .same, e)
+  go k e h = rw (← h .is, e)
 
   -- a refusal is handed on
   pub stop : (k : ℕ × State → Res (ℕ × State)) {n : ℕ} → x ≡ No n → Says b x m → Says b x (bind m k)
-  stop k e h = record { same = rw (← h .same, e); fit = h .fit }
+  stop k e h = record { is = rw (← h .is, e); fit = h .fit }
 
   pub kept : {d : ℕ} {s : St} → x ≡ Got d s → Says b x m → Fit b s
   kept e h = rw e at (h .fit)
 
   pub says-by : {m' : Res (ℕ × State)} → m ≡ m' → Says b x m → Says b x m'
-  says-by e h = record { same = h .same ∙ e; fit = h .fit }
+  says-by e h = record { is = h .is ∙ e; fit = h .fit }
 
   -- the next leaf takes the answer as it is
   pub chain : (k : ℕ × State → Res (ℕ × State)) {b' : Bufs} {r : Ans} → Says b x m → (FitAns b x → Says b' r (bind (read b x) k)) → Says b' r (bind m k)
-  chain k h g = let s = g (h .fit) in record { same = s .same ∙ ap (λ (q : Res (ℕ × State)). bind q k) (h .same); fit = s .fit }
+  chain k h g = let s = g (h .fit) in record { is = s .is ∙ ap (λ (q : Res (ℕ × State)). bind q k) (h .is); fit = s .fit }
 
 -- a refusal that came passes a leaf by
 pub passed : (c : List ℕ) {x : Ans} {n : ℕ} (f : ℕ × State → Res (ℕ × State)) → x ≡ No n → After c c x x f
-passed c f e t k h = record { same = rw e; fit = h }
+passed c f e t k h = record { is = rw e; fit = h }
 
 -- a leaf that goes on from what was got
 pub came : (c c' : List ℕ) {x r : Ans} {a : ℕ} {s : St} (f : ℕ × State → Res (ℕ × State)) → x ≡ Got a s →
     ((t k : List ℕ) → Fit (bufs t c k) s → Says (bufs t c' k) r (f (a, stOf (bufs t c k) s))) → After c c' x r f
 came c c' f e g t k h =
     let s = g t k (rw e at h) in
-    record { same = s .same ∙ rw e; fit = s .fit }
+    record { is = s .is ∙ rw e; fit = s .fit }
 
 -- ---- registers
 
 module _ (c : List ℕ) (st : St) where
   pub alloc-none : maxRegisters ≤ st .next → Steps c c st (No noRegister) allocD
   unfolding allocD
-  alloc-none h t k fit = record { same = rw (le-ltb _ _ h); fit = tt }
+  alloc-none h t k fit = record { is = rw (le-ltb _ _ h); fit = tt }
 
   pub alloc-next : {f : ℕ} → st .next < maxRegisters → f ≡ max (st .frame) (st .next + 1) →
       Steps c c st (Got (st .next) (record { count = st .count; slots = st .slots; next = st .next + 1; frame = f })) allocD
   unfolding allocD
   alloc-next h g t k fit =
-      record { same = rw (lt-ltb _ _ h, g); fit = record { words = fit .words; consts = fit .consts; named = fit .named } }
+      record { is = rw (lt-ltb _ _ h, g); fit = record { words = fit .words; consts = fit .consts; named = fit .named } }
 
   pub dest-to : {dst : Dst} {d : ℕ} → dst ≡ To d → Steps c c st (Got d st) (destD dst)
   unfolding destD
-  dest-to e t k fit = record { same = rw e; fit = fit }
+  dest-to e t k fit = record { is = rw e; fit = fit }
 
 pub dest-any : {st : St} {dst : Dst} {r : Ans} → dst ≡ Any → ((c : List ℕ) → Steps c c st r allocD) → (c : List ℕ) → Steps c c st r (destD dst)
 unfolding destD
@@ -90,7 +88,7 @@ dest-any e h c t k fit = rw e (h c t k fit)
 module _ (c : List ℕ) (st : St) {made : Made} (d : ℕ) where
   pub emit-refused : made ≡ Refused → Steps c c st (No noFit) (storeD made d)
   unfolding storeD
-  emit-refused e t k fit = record { same = rw e; fit = tt }
+  emit-refused e t k fit = record { is = rw e; fit = tt }
 
   pub emit-stored : {w : Insn} → made ≡ Fits w → st .count < length c →
       Steps c (set c (st .count) (w .bits)) st (Got d (record { count = st .count + 1; slots = st .slots; next = st .next; frame = st .frame })) (storeD made d)
@@ -99,7 +97,7 @@ module _ (c : List ℕ) (st : St) {made : Made} (d : ℕ) where
       let l : length (take (st .count) c) ≡ st .count = length-take-le _ _ (fit .words) in
       let n : length (set c (st .count) (w .bits)) ≡ length c = length-set c (st .count) (w .bits) in
       record {
-        same = rw (e, l, lt-ltb _ _ h, add-one, take-suc-set, length-set);
+        is = rw (e, l, lt-ltb _ _ h, add-one, take-suc-set, length-set);
         fit = record { words = rw n (omega arith); consts = fit .consts; named = fit .named };
       }
 
@@ -107,7 +105,7 @@ module _ (c : List ℕ) (st : St) {made : Made} (d : ℕ) where
   unfolding storeD
   emit-full e h t k fit =
       let l : length (take (st .count) c) ≡ st .count = length-take-le _ _ (fit .words) in
-      record { same = rw (e, l, le-ltb _ _ h); fit = tt }
+      record { is = rw (e, l, le-ltb _ _ h); fit = tt }
 
 -- a word made of an instruction
 pub emit-op : {c c' : List ℕ} {st : St} {r : Ans} {made : Made} (d : ℕ) (op : Op) → made ≡ madeOf op → Steps c c' st r (storeD made d) → Steps c c' st r (emitD op d)
@@ -147,7 +145,7 @@ module _ {c : List ℕ} {x : Ans} {a d : ℕ} {s z : St} {mark : ℕ} (got : x �
   unfolding moveTo
   move-there e =
       came c c (moveTo d mark) got λ t k f.
-      record { same = rw (eq-eqb a d e, free); fit = fit-free free f }
+      record { is = rw (eq-eqb a d e, free); fit = fit-free free f }
 
   pub move-moved : {c' : List ℕ} {made : Made} {r : Ans} → (a ≡ d → ⊥) → made ≡ madeOf (Op.Two Two.Mov d a) → Steps c c' z r (storeD made d) → After c c' x r (moveTo d mark)
   unfolding moveTo
@@ -155,7 +153,7 @@ module _ {c : List ℕ} {x : Ans} {a d : ℕ} {s z : St} {mark : ℕ} (got : x �
       came c c' (moveTo d mark) got λ t k f.
       let g : Fit (bufs t c k) z = fit-free free f in
       let q = emit-op d (Op.Two Two.Mov d a) m h t k g in
-      record { same = q .same ∙ rw (ne-eqb a d n, free); fit = q .fit }
+      record { is = q .is ∙ rw (ne-eqb a d n, free); fit = q .fit }
 
 -- a word made of an opcode and fields
 pub three-made : {k : ℕ} (d a b : ℕ) {r : Made} (op : Three) → k ≡ threeOp op → r ≡ make k (u 16 d ∷ u 16 a ∷ u 16 b ∷ []) → r ≡ madeOf (Op.Three op d a b)

@@ -1,4 +1,4 @@
--- What a leaf has to show: an immediate, a constant and its slot, the register of a Ref. Assumes nothing.
+-- What a leaf has to show: an immediate, a constant and its slot, the register of a Ref.
 use mathlib.Core.Path.{_≡_, refl, sym, ap, subst, _∙_}
 use mathlib.Core.Bool.{Bool, true, false, _&&_, cond}
 use mathlib.Core.List.{List, [], _∷_, map, map-append}
@@ -57,13 +57,13 @@ module _ (c ks : List ℕ) (i d : ℕ) (st : St) where
 
   pub const-full : length ks ≤ st .slots → Consts c c ks ks i st (No noSlot) (λ x s. constTo x (d, s))
   unfolding constTo slotD
-  const-full h t in-table fit = record { same = rw (slots-are t (fit .consts), le-ltb (st .slots) (length ks) h); fit = tt }
+  const-full h t in-table fit = record { is = rw (slots-are t (fit .consts), le-ltb (st .slots) (length ks) h); fit = tt }
 
   pub const-far : st .slots < length ks → 4294967295 < st .slots → Consts c c ks ks i st (No noFit) (λ x s. constTo x (d, s))
   unfolding constTo slotD storeD
   const-far h far t in-table fit =
       let m : madeOf (Op.Slot Slot.LoadConst d (st .slots)) ≡ Refused = sym (far-slot d (st .slots) far) in
-      record { same = rw (slots-are t (fit .consts), lt-ltb (st .slots) (length ks) h, m); fit = tt }
+      record { is = rw (slots-are t (fit .consts), lt-ltb (st .slots) (length ks) h, m); fit = tt }
 
   fit-after : st .slots < length ks → (t : List ℕ) → i < nodeCount t → Fit (bufs t c ks) st → Fit (bufs t c (set ks (st .slots) i)) (taken st)
   fit-after h t in-table fit =
@@ -82,7 +82,7 @@ module _ (c ks : List ℕ) (i d : ℕ) (st : St) where
   const-put h m s t in-table fit =
       let q = s t (set ks (st .slots) i) (fit-after h t in-table fit) in
       record {
-        same = q .same ∙ rw (slots-are t (fit .consts), lt-ltb (st .slots) (length ks) h, add-one (st .slots), take-suc-set ks (st .slots) i h, map-append, length-set, m);
+        is = q .is ∙ rw (slots-are t (fit .consts), lt-ltb (st .slots) (length ks) h, add-one (st .slots), take-suc-set ks (st .slots) i h, map-append, length-set, m);
         fit = q .fit;
       }
 
@@ -183,6 +183,6 @@ module _ {ws : List ℕ} {i : ℕ} (ready : LeafReady ws i) {k : ℕ} (e : k ≡
 
   pub leaf-ref : {p : ℕ} {c ks : List ℕ} (dst : Dst) {st : St} → Fit (bufs ws c ks) st → (kind pay : ℕ) → k ≡ kind → p ≡ pay → Says (bufs ws c ks) (Got p st) (leafD (leafAt pay kind) dst (stOf (bufs ws c ks) st))
   unfolding leafD leafAt
-  leaf-ref dst fit kind pay g q = leaf-by dst fit kind pay g 5 last-kind (record { same = rw q; fit = fit })
+  leaf-ref dst fit kind pay g q = leaf-by dst fit kind pay g 5 last-kind (record { is = rw q; fit = fit })
 
 pub ruleset leafs = (four-fits, leaf-nil, leaf-yes, leaf-no, leaf-int, leaf-big, leaf-float, leaf-ref, ref-fits)

@@ -1,4 +1,5 @@
--- What the contracts of branches say: an answer of the code, with the buffers and the jump list that it leaves. Assumes nothing: these are definitions.
+-- Plumbing: what Read is for values, for branches. A branch answers how many jumps stand at the front of the lent jump list (`Jumps`); the definition
+-- gives the list of their positions.
 use mathlib.Core.Path.{_≡_}
 use mathlib.Core.Bool.{Bool, cond}
 use mathlib.Core.List.{List}
@@ -16,37 +17,48 @@ use Rattle.emit.specs.declared.jump.Jumps.{Jumps}
 use Rattle.emit.specs.declared.jump.Jumps.the-variants as J
 use Rattle.emit.specs.Jump.{junctionTo}
 
-abbrev pub readJumps : Bufs → List ℕ → Jumps → Res (List ℕ × State)
+-- ---- answers
+
+-- the definition's answer, with the buffers b and the jump list js as the code leaves them
+abbrev pub readJumps : (b : Bufs) (js : List ℕ) → Jumps → Res (List ℕ × State)
 readJumps b js (J.Are n st) = done (take n js, stOf b st)
 readJumps b js (J.No n) = fail n
 
-abbrev pub FitJumps : Bufs → List ℕ → Jumps → Type 0
+abbrev pub FitJumps : (b : Bufs) (js : List ℕ) → Jumps → Type 0
 FitJumps b js (J.Are n st) = (Fit b st) × (n ≤ length js)
 FitJumps b js (J.No n) = Unit {0}
 
+-- the answer r is what the definition gives
 pub record Lists (b : Bufs) (js : List ℕ) (r : Jumps) (m : Res (List ℕ × State)) : Type 0 where
-  pub same : readJumps b js r ≡ m
+  pub is : readJumps b js r ≡ m
   pub fit : FitJumps b js r
 
--- a step from a state to a list of jumps
-abbrev pub Jumping : List ℕ → List ℕ → List ℕ → St → Jumps → (State → Res (List ℕ × State)) → Type 0
+-- ---- contracts of leaves, for every table t and all slots k
+
+-- from the state st, the words being c before and c' after, and the jump list js after
+abbrev pub Jumping : (c c' js : List ℕ) (st : St) (r : Jumps) (f : State → Res (List ℕ × State)) → Type 0
 Jumping c c' js st r f = (t k : List ℕ) → Fit (bufs t c k) st → Lists (bufs t c' k) js r (f (stOf (bufs t c k) st))
 
-abbrev pub AfterJumping : List ℕ → List ℕ → List ℕ → Ans → Jumps → (ℕ × State → Res (List ℕ × State)) → Type 0
+-- from the answer x
+abbrev pub AfterJumping : (c c' js : List ℕ) (x : Ans) (r : Jumps) (f : ℕ × State → Res (List ℕ × State)) → Type 0
 AfterJumping c c' js x r f =
     (t k : List ℕ) → FitAns (bufs t c k) x → Lists (bufs t c' k) js r (bind (read (bufs t c k) x) f)
 
--- what patching answers
+-- ---- patching
+
+-- what the code makes of an answer of `patch`
 abbrev pub patchedAns : Patched → ℕ → St → Ans
 patchedAns p d st = cond (eqb (patchedNumber p) 0) (Got d st) (No (patchedNumber p))
 
--- the words of an answer are in the buffer
-abbrev pub Counted : List ℕ → Ans → Type 0
+-- the words of an answer are in the buffer c
+abbrev pub Counted : (c : List ℕ) → Ans → Type 0
 Counted c (Got r st) = st .count ≤ length c
 Counted c (No n) = Unit {0}
 
--- n jumps stand in the list, and the answer's after them
-abbrev pub Behind : List ℕ → List ℕ → ℕ → Jumps → Type 0
+-- ---- both sides of And or Or: the left side's n jumps stand at the front of the list js, the right side's after them
+
+-- the right side's answer is within the words c and the list
+abbrev pub Behind : (c js : List ℕ) (n : ℕ) → Jumps → Type 0
 Behind c js n (J.Are k st) = (n + k ≤ length js) × (st .count ≤ length c)
 Behind c js n (J.No f) = Unit {0}
 
@@ -54,8 +66,8 @@ pub record Joinable (c js : List ℕ) (n : ℕ) (y : Jumps) : Type 0 where
   pub left : n ≤ length js
   pub right : Behind c js n y
 
--- both sides of And or Or: the left side's n jumps, and those of y after them
-abbrev pub Joined : List ℕ → List ℕ → List ℕ → List ℕ → Bool → ℕ → Jumps → Jumps → Type 0
-Joined c c' js js' same n y r =
+-- from the right side's answer y: words and list are c and js before, c' and js' after; `out` says where the left side's jumps go
+abbrev pub Joined : (c c' js js' : List ℕ) (out : Bool) (n : ℕ) (y r : Jumps) → Type 0
+Joined c c' js js' out n y r =
     (t k : List ℕ) → FitJumps (bufs t c k) (drop n js) y
-    → Lists (bufs t c' k) js' r (bind (readJumps (bufs t c k) (drop n js) y) (junctionTo same (take n js)))
+    → Lists (bufs t c' k) js' r (bind (readJumps (bufs t c k) (drop n js) y) (junctionTo out (take n js)))

@@ -1,24 +1,26 @@
--- The generator's state, and what it does to it: registers, constant slots, words, patches. A step gives an answer, or the number of a refusal.
--- Assumes nothing: these are definitions.
+-- The generator's state, and the steps that change it: registers, constant slots, words. A step gives an answer and the state after it, or a refusal.
 use mathlib.Core.Bool.{cond}
 use mathlib.Core.List.{List, [], _∷_, _++_}
 use Prim.Native.Nat.{ℕ, _+_, max}
 use lib.Dec.{ltb}
 use lib.ListN.{length}
-use Rattle.faults.specs.Numbers.{noRegister, noSlot, noRoom, noFit}
+use Rattle.faults.specs.Numbers.{noRegister, noSlot, noRoom}
 use Rattle.faults.specs.Limits.{maxRegisters}
 use Rattle.value.specs.Value.{Datum}
 use Rattle.insns.specs.declared.Made.{Made}
 use Rattle.insns.specs.declared.Made.the-variants.{Fits, Refused}
 use Rattle.insns.specs.declared.op.Op.{Op}
+use Rattle.insns.specs.Fields.{madeNumber}
 use Rattle.insns.specs.Insns.{madeOf}
 use Rattle.emit.specs.declared.state.Dst.{Dst}
 use Rattle.emit.specs.declared.state.Dst.the-variants.{Any, To}
 
+-- an answer, or the number of a refusal
 pub data Res (A : Type 0) : Type 0 where
   done : A → Res A
   fail : ℕ → Res A
 
+-- one step after another: a refusal ends them. A `do` block writes it `x ← step`
 abbrev pub bind : {A B : Type 0} → Res A → (A → Res B) → Res B
 bind (done a) k = k a
 bind (fail n) k = fail n
@@ -36,20 +38,28 @@ pub record State : Type 0 where
 abbrev pub here : State → ℕ
 here s = length (s .words)
 
+-- with other words, other constants, other registers
 abbrev pub withWords : List ℕ → State → State
 withWords ws s =
     record { words = ws; cap = s .cap; slots = s .slots; slotCap = s .slotCap; next = s .next; frame = s .frame }
 
+abbrev pub withSlots : List Datum → State → State
+withSlots ks s =
+    record { words = s .words; cap = s .cap; slots = ks; slotCap = s .slotCap; next = s .next; frame = s .frame }
+
+abbrev pub withRegisters : ℕ → ℕ → State → State
+withRegisters next frame s =
+    record { words = s .words; cap = s .cap; slots = s .slots; slotCap = s .slotCap; next = next; frame = frame }
+
 -- the registers from m up are free again (`free_to`)
 abbrev pub release : ℕ → State → State
-release m s =
-    record { words = s .words; cap = s .cap; slots = s .slots; slotCap = s .slotCap; next = m; frame = s .frame }
+release m s = withRegisters m (s .frame) s
 
--- the first free register (`alloc`)
+-- the first free register (`alloc`); 5 where there is none. The frame is the highest register count so far
 unfoldable pub allocD : State → Res (ℕ × State)
 allocD s =
     cond (ltb (s .next) maxRegisters)
-    (done (s .next, record { words = s .words; cap = s .cap; slots = s .slots; slotCap = s .slotCap; next = s .next + 1; frame = max (s .frame) (s .next + 1) }))
+    (done (s .next, withRegisters (s .next + 1) (max (s .frame) (s .next + 1)) s))
     (fail noRegister)
 
 -- the register that is asked for, or the first free one
@@ -57,17 +67,18 @@ unfoldable pub destD : Dst → State → Res (ℕ × State)
 destD (To d) s = done (d, s)
 destD Any s = allocD s
 
--- a fresh constant slot, whose place is given back (`push_const`)
+-- a fresh constant slot, whose place is given back (`push_const`); 6 where there is none
 unfoldable pub slotD : Datum → State → Res (ℕ × State)
 slotD c s =
     cond (ltb (length (s .slots)) (s .slotCap))
-    (done (length (s .slots), record { words = s .words; cap = s .cap; slots = s .slots ++ (c ∷ []); slotCap = s .slotCap; next = s .next; frame = s .frame }))
+    (done (length (s .slots), withSlots (s .slots ++ (c ∷ [])) s))
     (fail noSlot)
 
--- a word more; the register d, for whose value the word is, goes along as the answer
+-- one word more; 9 where an operand does not fit its field, 7 where there is no room. The register d, whose value the word makes, is the answer
 unfoldable pub storeD : Made → ℕ → State → Res (ℕ × State)
-storeD Refused d s = fail noFit
+storeD Refused d s = fail (madeNumber Refused)
 storeD (Fits w) d s = cond (ltb (here s) (s .cap)) (done (d, withWords (s .words ++ (w .bits ∷ [])) s)) (fail noRoom)
 
+-- the word of an instruction (`emit`)
 abbrev pub emitD : Op → ℕ → State → Res (ℕ × State)
 emitD op d s = storeD (madeOf op) d s

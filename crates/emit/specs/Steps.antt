@@ -1,4 +1,4 @@
--- The steps that the generator's rules are made of: what is done with an operand once it is there. Assumes nothing: these are definitions.
+-- The steps that the generator's rules are made of: leaves, and what is done with an operand once its value is in a register.
 use mathlib.Core.Bool.{cond}
 use Prim.Native.Nat.{ℕ}
 use lib.Dec.{eqb}
@@ -13,7 +13,7 @@ use Rattle.insns.specs.declared.op.Slot.the-variants as Slot
 use Rattle.insns.specs.declared.op.Three.{Three}
 use Rattle.emit.specs.declared.state.Dst.{Dst}
 use Rattle.fold.specs.declared.Tail.{Tail}
-use Rattle.emit.specs.State.{Res, done, bind, State, release, destD, slotD, emitD}
+use Rattle.emit.specs.State.{Res, done, bind as _>>=_, State, release, destD, slotD, emitD}
 use Rattle.fold.specs.Literal.{fitsImm40}
 use Rattle.fold.specs.Fold.{tailOp}
 
@@ -21,7 +21,9 @@ use Rattle.fold.specs.Fold.{tailOp}
 
 -- its destination, then the instruction
 unfoldable pub putD : (ℕ → Op) → Dst → State → Res (ℕ × State)
-putD op dst s = bind (destD dst s) (λ x. emitD (op (x .0)) (x .0) (x .1))
+putD op dst s = do
+  (d, s₁) ← destD dst s
+  emitD (op d) d s₁
 
 -- an immediate, by its raw bits
 abbrev pub loadOp : Imm40 → ℕ → Op
@@ -39,12 +41,16 @@ rawFalse = record { raw = pos 5 }
 abbrev pub rawInt : ℤ → Imm40
 rawInt z = record { raw = pos 4 *ℤ z }
 
--- a constant: its register, its slot, its word
+-- a constant: its register, then its slot and its word
 unfoldable pub constTo : Datum → ℕ × State → Res (ℕ × State)
-constTo c x = bind (slotD c (x .1)) (λ k. emitD (Op.Slot Slot.LoadConst (x .0) (k .0)) (x .0) (k .1))
+constTo c x = do
+  (k, s) ← slotD c (x .1)
+  emitD (Op.Slot Slot.LoadConst (x .0) k) (x .0) s
 
 unfoldable pub constD : Datum → Dst → State → Res (ℕ × State)
-constD c dst s = bind (destD dst s) (constTo c)
+constD c dst s = do
+  x ← destD dst s
+  constTo c x
 
 -- a leaf: an immediate, a constant, or the register that a Ref names (`gen_value`, `gen_var_read`)
 unfoldable pub leafD : Leaf → Dst → State → Res (ℕ × State)
@@ -59,13 +65,14 @@ leafD (ref r) dst s = done (r, s)
 unfoldable pub putTo : (ℕ → ℕ → Op) → Dst → ℕ → ℕ × State → Res (ℕ × State)
 putTo op dst mark x = putD (op (x .0)) dst (release mark (x .1))
 
+-- an instruction of one register
 abbrev pub tailTo : Tail → Dst → ℕ → ℕ × State → Res (ℕ × State)
 tailTo tail dst mark = putTo (λ a d. tailOp tail d a) dst mark
 
--- the left operand is in a
+-- one of two registers; the left operand is in a
 abbrev pub threeTo : Three → ℕ → Dst → ℕ → ℕ × State → Res (ℕ × State)
 threeTo op a dst mark = putTo (λ b d. Op.Three op d a b) dst mark
 
--- what is in a register goes to the register d, unless it is that one
+-- a mov to the register d, unless the value is there already
 unfoldable pub moveTo : ℕ → ℕ → ℕ × State → Res (ℕ × State)
 moveTo d mark x = cond (eqb (x .0) d) (done (d, release mark (x .1))) (emitD (Op.Two Two.Mov d (x .0)) d (release mark (x .1)))

@@ -1,5 +1,5 @@
-// The words that the generator makes, field by field, with no decoded instruction on the way. A branch is made with the displacement 0, to be patched:
-// its word is that of its other operands.
+// The words that the generator makes, field by field: a decoded instruction on the way would be handed over through memory. A branch is made with the
+// displacement 0, which is filled in when the jump is patched to its target, so its word is that of its other operands.
 use insns::Insn;
 use insns::Made;
 use insns::bits::signed_bits;
@@ -19,7 +19,8 @@ use insns::op::Imm40;
 ghost use mathlib.Core.Path.{_≡_};
 ghost use Rattle.insns.specs.Insns.{madeOf};
 ghost use Rattle.insns.specs.declared.op.Op.{Op};
-ghost use Rattle.emit.specs.Build.{toPatch, senseOf, literalBits};
+ghost use Rattle.emit.specs.Jump.{toPatch, senseOf};
+ghost use Rattle.emit.specs.Read.{literalBits};
 
 // The sizes of a register's field, of a literal's and of a raw immediate's.
 const REGISTER: u64 = 65536;

@@ -1,4 +1,5 @@
-// Branches, the list of their positions, and patching.
+// Branches and patching. The position of a branch is listed until its target is known; the lists stand in one lent slice, and a place is free again once
+// its jump is patched.
 use crate::state::Ans;
 use crate::state::St;
 use crate::state::free_to;
@@ -27,14 +28,14 @@ pub enum Jumps {
     No(u8),
 }
 
-// A jump whose displacement is to be patched.
+// A jmp whose displacement is to be patched.
 fn emit_jmp(code: &mut [u64], d: u16, st: St) -> Ans
     ensures { λ r. ⌜ Steps (now (code .entry)) (now (code .exit)) st r (emitD jmpOp d) ⌝ }
 {
     emit(code, crate::build::jmp(), d, st)
 }
 
-// A branch, whose position is the one jump of the list.
+// A branch, whose position is the one jump of the list. Refuses with 7 if the list has no room.
 fn jump(code: &mut [u64], jumps: &mut [u64], made: Made, st: St) -> Jumps
     ensures { λ r. ⌜ Jumping (now (code .entry)) (now (code .exit)) (now (jumps .exit)) st r (leapD made (length (now (jumps .entry)))) ⌝ }
 {
@@ -52,6 +53,7 @@ fn jump(code: &mut [u64], jumps: &mut [u64], made: Made, st: St) -> Jumps
     }
 }
 
+// The branch that tests one register. Its displacement is filled in later, when the jump is patched to its target.
 fn how_word(how: How, a: u16) -> Made
     ensures { λ r. ⌜ r ≡ madeOf (howOp how a) ⌝ }
 {
@@ -61,9 +63,11 @@ fn how_word(how: How, a: u16) -> Made
     }
 }
 
-// A value is there: the branch that tests it.
+// The value is in a register: the branch that tests it.
 pub fn jump_one(code: &mut [u64], jumps: &mut [u64], how: How, top: u16, x: Ans) -> Jumps
-    ensures { λ r. ⌜ AfterJumping (now (code .entry)) (now (code .exit)) (now (jumps .exit)) x r (oneTo how (length (now (jumps .entry))) top) ⌝ }
+    ensures { λ r. ⌜
+        AfterJumping (now (code .entry)) (now (code .exit)) (now (jumps .exit)) x r (oneTo how (length (now (jumps .entry))) top)
+        ⌝ }
 {
     match x {
         Ans::Got(a, s) => jump(code, jumps, how_word(how, a), free_to(s, top)),
@@ -71,9 +75,11 @@ pub fn jump_one(code: &mut [u64], jumps: &mut [u64], how: How, top: u16, x: Ans)
     }
 }
 
-// Both values are there, the left one in a: the branch that compares them.
+// Both values are in registers, the left one in a: the branch that compares them.
 pub fn jump_pair(code: &mut [u64], jumps: &mut [u64], cmp: Cmp, a: u16, top: u16, y: Ans) -> Jumps
-    ensures { λ r. ⌜ AfterJumping (now (code .entry)) (now (code .exit)) (now (jumps .exit)) y r (pairTo cmp a (length (now (jumps .entry))) top) ⌝ }
+    ensures { λ r. ⌜
+        AfterJumping (now (code .entry)) (now (code .exit)) (now (jumps .exit)) y r (pairTo cmp a (length (now (jumps .entry))) top)
+        ⌝ }
 {
     match y {
         Ans::Got(b, s) => jump(code, jumps, crate::build::jump(cmp, a, b), free_to(s, top)),
@@ -91,8 +97,8 @@ fn patched(p: Patched, d: u16, st: St) -> Ans
     Ans::Got(d, st)
 }
 
-// The branch at p goes to here.
-pub fn patch_jump(code: &mut [u64], p: usize, d: u16, st: St) -> Ans
+// Points a jump that was emitted at p at the next word. Displacements count instructions from the one after the jump.
+fn patch_jump(code: &mut [u64], p: usize, d: u16, st: St) -> Ans
     requires { ⌜ st .count ≤ length (now code) ⌝ }
     ensures { λ r. ⌜ Steps (now (code .entry)) (now (code .exit)) st r (patchD p d) ⌝ }
 {
@@ -101,8 +107,8 @@ pub fn patch_jump(code: &mut [u64], p: usize, d: u16, st: St) -> Ans
     patched(r, d, st)
 }
 
-// Each branch of the list goes to here.
-pub fn patch_jumps(code: &mut [u64], jumps: &[u64], d: u16, st: St) -> Ans
+// Points a set of jumps, as a test can produce more than one, at the same word.
+fn patch_jumps(code: &mut [u64], jumps: &[u64], d: u16, st: St) -> Ans
     requires { ⌜ st .count ≤ length (now code) ⌝ }
     ensures { λ r. ⌜ Steps (now (code .entry)) (now (code .exit)) st r (patchesD (now (jumps .entry)) d) ⌝ }
 {
@@ -111,7 +117,7 @@ pub fn patch_jumps(code: &mut [u64], jumps: &[u64], d: u16, st: St) -> Ans
     patched(r, d, st)
 }
 
-// The k jumps from n on, moved to the list's front.
+// The k jumps from n on, moved to the list's front: the n before them are patched, and their places are used again.
 fn slide(jumps: &mut [u64], n: usize, k: usize)
     requires { ⌜ n + k ≤ length (now jumps) ⌝ }
     ensures { λ _. ⌜ take k (now (jumps .exit)) ≡ take k (drop n (now (jumps .entry))) ⌝ }
@@ -123,15 +129,16 @@ fn slide(jumps: &mut [u64], n: usize, k: usize)
     }
 }
 
-// Both sides of And or Or are made, the left one with n jumps: they go where the right side's go, or only skip the right side.
-pub fn join(code: &mut [u64], jumps: &mut [u64], same: bool, n: usize, y: Jumps) -> Jumps
+// Both sides of And or Or are made, the left one with n jumps. In one sense of the test they go where the right side's go (`out`); in the other they only
+// skip the right side, which is what the patch is for.
+pub fn join(code: &mut [u64], jumps: &mut [u64], out: bool, n: usize, y: Jumps) -> Jumps
     requires { ⌜ Joinable (now code) (now jumps) n y ⌝ }
-    ensures { λ r. ⌜ Joined (now (code .entry)) (now (code .exit)) (now (jumps .entry)) (now (jumps .exit)) same n y r ⌝ }
+    ensures { λ r. ⌜ Joined (now (code .entry)) (now (code .exit)) (now (jumps .entry)) (now (jumps .exit)) out n y r ⌝ }
 {
     let Jumps::Are(k, s) = y else {
         return y;
     };
-    if same {
+    if out {
         let all = n + k;
         return Jumps::Are(all, s);
     }
@@ -145,7 +152,7 @@ pub fn join(code: &mut [u64], jumps: &mut [u64], same: bool, n: usize, y: Jumps)
     }
 }
 
-// The then side is made: a jmp over the else side, where the n jumps of the test go.
+// The then side of a ternary is made: a jmp over the else side, and the jumps of the test go to that side.
 pub fn turn(code: &mut [u64], jumps: &[u64], d: u16, st: St) -> Ans
     requires { ⌜ st .count ≤ length (now code) ⌝ }
     ensures { λ r. ⌜ Steps (now (code .entry)) (now (code .exit)) st r (turnD (now (jumps .entry)) d) ⌝ }
@@ -157,7 +164,7 @@ pub fn turn(code: &mut [u64], jumps: &[u64], d: u16, st: St) -> Ans
     patch_jumps(code, jumps, d, s)
 }
 
-// The else side is made: the jmp at p goes to here.
+// The else side is made: the jmp at p, which jumps over it, goes behind it.
 pub fn settle(code: &mut [u64], p: usize, d: u16, x: Ans) -> Ans
     requires { ⌜ Counted (now code) x ⌝ }
     ensures { λ r. ⌜ After (now (code .entry)) (now (code .exit)) x r (λ y. patchD p d (y .1)) ⌝ }
@@ -168,7 +175,7 @@ pub fn settle(code: &mut [u64], p: usize, d: u16, x: Ans) -> Ans
     patch_jump(code, p, d, s)
 }
 
-// The value True in d, where the jumps go that were listed; then the jmp at p goes to here.
+// The branch lands on the true case: a load of True into d; the jmp at p, which jumps over it, goes behind it.
 fn load_true(code: &mut [u64], jumps: &[u64], p: usize, d: u16, st: St) -> Ans
     requires { ⌜ st .count ≤ length (now code) ⌝ }
     ensures { λ r. ⌜ Steps (now (code .entry)) (now (code .exit)) st r (trueD (now (jumps .entry)) p d) ⌝ }
@@ -181,7 +188,8 @@ fn load_true(code: &mut [u64], jumps: &[u64], p: usize, d: u16, st: St) -> Ans
     settle(code, p, d, y)
 }
 
-// The branch of a condition is made, with n jumps: load False, jmp, load True.
+// A condition as a boolean value, from the jumps of its branch: load False, jmp, load True. The branch it compiles to is what decides the result, so a
+// comparison costs no more here than it does as a test.
 pub fn gen_bool(code: &mut [u64], jumps: &[u64], d: u16, st: St) -> Ans
     requires { ⌜ st .count ≤ length (now code) ⌝ }
     ensures { λ r. ⌜ Steps (now (code .entry)) (now (code .exit)) st r (boolD (now (jumps .entry)) d) ⌝ }

@@ -1,4 +1,4 @@
-// The leaves of an expression: an immediate, a constant in a slot, or the register that a Ref names.
+// The leaves of an expression. A literal that fits the instruction goes inline, any other through a constant slot; a variable is in a register already.
 use crate::state::Ans;
 use crate::state::Dst;
 use crate::state::St;
@@ -8,8 +8,7 @@ use crate::word::RAW_NIL;
 use crate::word::RAW_TRUE;
 use crate::word::emit;
 use crate::word::put_load;
-use fold::literal::IMM40;
-use fold::literal::within;
+use fold::literal::fits_imm40;
 use insns::Insn;
 use insns::op::Imm40;
 ghost use mathlib.Core.Path.{_≡_};
@@ -19,10 +18,12 @@ ghost use Rattle.table.specs.Tree.{Leaf, leafKind, kindOf};
 ghost use Rattle.emit.specs.Steps.{constTo, constD, leafD};
 ghost use Rattle.emit.specs.Read.{bufs, stOf, Fit, Says, Consts, LeafReady};
 
-// A fresh constant slot for the literal at node i, and the word that loads it.
-// Until the words are done a slot holds its node's number.
+// A fresh constant slot for the literal at node i, and the word that loads it. Until all words are made the slot holds the node's number, so that one
+// slice is lent to the rules and not two; the constants' kinds and payloads are written at the end.
 fn push_const(code: &mut [u64], slots: &mut [u64], i: usize, d: u16, st: St) -> Ans
-    ensures { λ r. ⌜ Consts (now (code .entry)) (now (code .exit)) (now (slots .entry)) (now (slots .exit)) i st r (λ c s. constTo c (d, s)) ⌝ }
+    ensures { λ r. ⌜
+        Consts (now (code .entry)) (now (code .exit)) (now (slots .entry)) (now (slots .exit)) i st r (λ c s. constTo c (d, s))
+        ⌝ }
 {
     let k = st.slots;
     if slots.len() <= k {
@@ -45,9 +46,11 @@ fn push_const(code: &mut [u64], slots: &mut [u64], i: usize, d: u16, st: St) -> 
     )
 }
 
-// A constant: its register, its slot, its word.
+// Loads a constant that goes through a slot: its register first, then its slot, then its word.
 fn gen_const(code: &mut [u64], slots: &mut [u64], i: usize, dst: Dst, st: St) -> Ans
-    ensures { λ r. ⌜ Consts (now (code .entry)) (now (code .exit)) (now (slots .entry)) (now (slots .exit)) i st r (λ c s. constD c dst s) ⌝ }
+    ensures { λ r. ⌜
+        Consts (now (code .entry)) (now (code .exit)) (now (slots .entry)) (now (slots .exit)) i st r (λ c s. constD c dst s)
+        ⌝ }
 {
     let x = dest(dst, st);
     let Ans::Got(d, s) = x else {
@@ -56,7 +59,8 @@ fn gen_const(code: &mut [u64], slots: &mut [u64], i: usize, dst: Dst, st: St) ->
     push_const(code, slots, i, d, s)
 }
 
-// The leaf at node i.
+// The leaf at node i. Immediates that fit the instruction go inline, the rest through a constant slot. A variable's value sits in its own register, so
+// that register is handed back as it is (`gen_var_read` in the Rust).
 pub fn gen_value(
     nodes: &[u64],
     code: &mut [u64],
@@ -67,7 +71,11 @@ pub fn gen_value(
 ) -> Ans
     requires { ⌜ LeafReady (now nodes) i ⌝ }
     requires { ⌜ Fit (bufs (now nodes) (now code) (now slots)) st ⌝ }
-    ensures { λ r. ⌜ ((f : ℕ → Leaf) → kindOf (kindAt (now (nodes .entry)) i) ≡ leafKind f → Says (bufs (now (nodes .entry)) (now (code .exit)) (now (slots .exit))) r (leafD (f (payloadAt (now (nodes .entry)) i)) dst (stOf (bufs (now (nodes .entry)) (now (code .entry)) (now (slots .entry))) st))) ⌝ }
+    ensures { λ r. ⌜
+        ((f : ℕ → Leaf) → kindOf (kindAt (now (nodes .entry)) i) ≡ leafKind f
+        → Says (bufs (now (nodes .entry)) (now (code .exit)) (now (slots .exit))) r
+        (leafD (f (payloadAt (now (nodes .entry)) i)) dst (stOf (bufs (now (nodes .entry)) (now (code .entry)) (now (slots .entry))) st)))
+        ⌝ }
 {
     let k = table::kind_at(nodes, i);
     let p = table::payload_at(nodes, i);
@@ -77,7 +85,7 @@ pub fn gen_value(
         table::FALSE => put_load(code, Imm40 { raw: RAW_FALSE }, dst, st),
         table::INT => {
             let z = int64::sign::signed(p);
-            if within(z, IMM40) {
+            if fits_imm40(z) {
                 return put_load(code, Imm40 { raw: 4 * z }, dst, st);
             }
             gen_const(code, slots, i, dst, st)

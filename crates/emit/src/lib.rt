@@ -1,4 +1,5 @@
-// What the generator's values are made of: the state and its registers (`state`), the words (`build`, `word`), the leaves of an expression (`leaf`), branches and patching (`jump`).
+// What the generator's rules are made of: the state and its registers (`state`), words (`build`, `word`), the leaves of an expression (`leaf`), branches and
+// patching (`jump`). None of them calls a rule. What a refused one leaves in the lent buffers is not said here, but in `compile` (docs/OPEN.md).
 mod build;
 pub mod jump;
 pub mod leaf;

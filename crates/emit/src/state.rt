@@ -1,11 +1,12 @@
-// The generator's state, and its registers. A routine answers with the state after it, or with the number of a refusal.
+// The generator's state, and its registers. Variables come first in a frame, temporaries above them. Temporaries are handed out and given back in stack
+// order, so a caller notes the top (`next`) before generating subexpressions and frees back to it once it has consumed their results.
 ghost use mathlib.Core.Path.{_≡_};
 ghost use mathlib.Core.List.{List};
 ghost use Prim.Native.Nat.{ℕ, max};
 ghost use Rattle.emit.specs.State.{allocD, destD};
 ghost use Rattle.emit.specs.Read.{freed, Steps};
 
-// How many words and constants there are, the next free register and the highest register count (`Regs`).
+// How many words and constants there are, the next free temporary, and the high water mark, which is the frame size that the expression needs (`Regs`).
 pub struct St {
     pub count: usize,
     pub slots: usize,
@@ -13,13 +14,14 @@ pub struct St {
     pub frame: u16,
 }
 
-// Where a value goes: to any register, or to one that is named.
+// Where a value goes. A register that is named is a hint: an expression that has to write somewhere writes there, but one whose value already sits in a
+// register hands that register back untouched. Callers that need the value in a specific register go through `gen_into`.
 pub enum Dst {
     Any,
     To(u16),
 }
 
-// The register that holds a value, and the state; or the number of a refusal.
+// The register that holds a value, and the state after it; or the number of a refusal.
 pub enum Ans {
     Got(u16, St),
     No(u8),
@@ -31,8 +33,8 @@ fn larger(a: u16, b: u16) -> u16
     if a < b { b } else { a }
 }
 
-// The registers from `top` up are free again.
-pub fn free_to(st: St, top: u16) -> St
+// Gives back every temporary handed out since `top` was taken.
+pub(crate) fn free_to(st: St, top: u16) -> St
     ensures { λ r. ⌜ r ≡ freed st top ⌝ }
 {
     St {
@@ -43,8 +45,8 @@ pub fn free_to(st: St, top: u16) -> St
     }
 }
 
-// The first free register.
-pub fn alloc(st: St) -> Ans
+// Reserves one register to hold an intermediate value. Refuses with 5 if the frame is too large.
+fn alloc(st: St) -> Ans
     ensures { λ r. ⌜ ((c : List ℕ) → Steps c c st r allocD) ⌝ }
 {
     let n = st.next;
@@ -64,7 +66,7 @@ pub fn alloc(st: St) -> Ans
     )
 }
 
-// The register that is asked for, or the first free one.
+// The register to write into, for what produces a new value (`out!` in the Rust): the one that is asked for, or the first free one.
 pub fn dest(dst: Dst, st: St) -> Ans
     ensures { λ r. ⌜ ((c : List ℕ) → Steps c c st r (destD dst)) ⌝ }
 {

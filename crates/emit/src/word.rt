@@ -1,4 +1,4 @@
-// One word more, and the instructions that make a value.
+// Appending words, and the instructions that make a value of operands that are in registers.
 use crate::state::Ans;
 use crate::state::Dst;
 use crate::state::St;
@@ -22,14 +22,14 @@ ghost use Rattle.emit.specs.Steps.{loadOp, putD, tailTo, threeTo, moveTo
 ghost use Rattle.emit.specs.Read.{Steps, After};
 
 // The raw bits of the immediates.
-pub const RAW_NIL: i64 = 1;
+pub(crate) const RAW_NIL: i64 = 1;
 
-pub const RAW_FALSE: i64 = 5;
+pub(crate) const RAW_FALSE: i64 = 5;
 
-pub const RAW_TRUE: i64 = 9;
+pub(crate) const RAW_TRUE: i64 = 9;
 
-// A word more, for the value in register d: 9 where it was refused, 7 where there is no room.
-pub fn emit(code: &mut [u64], made: Made, d: u16, st: St) -> Ans
+// Appends one word. Refuses with 9 if the word could not be built, 7 if the buffer is full. The register d, whose value the word makes, is handed on.
+pub(crate) fn emit(code: &mut [u64], made: Made, d: u16, st: St) -> Ans
     ensures { λ r. ⌜ Steps (now (code .entry)) (now (code .exit)) st r (storeD made d) ⌝ }
 {
     let Made::Fits(w) = made else {
@@ -51,15 +51,15 @@ pub fn emit(code: &mut [u64], made: Made, d: u16, st: St) -> Ans
     Ans::No(faults::NO_ROOM)
 }
 
-// An immediate, in the register d.
-pub fn emit_load(code: &mut [u64], raw: Imm40, d: u16, st: St) -> Ans
+// Loads an immediate into the register d.
+pub(crate) fn emit_load(code: &mut [u64], raw: Imm40, d: u16, st: St) -> Ans
     ensures { λ r. ⌜ Steps (now (code .entry)) (now (code .exit)) st r (emitD (Op.LoadImm40 d raw) d) ⌝ }
 {
     emit(code, crate::build::load_imm40(d, raw), d, st)
 }
 
-// An immediate, in the register that is asked for.
-pub fn put_load(code: &mut [u64], raw: Imm40, dst: Dst, st: St) -> Ans
+// Loads an immediate into the register that is asked for, or a new one.
+pub(crate) fn put_load(code: &mut [u64], raw: Imm40, dst: Dst, st: St) -> Ans
     ensures { λ r. ⌜ Steps (now (code .entry)) (now (code .exit)) st r (putD (loadOp raw) dst) ⌝ }
 {
     let x = dest(dst, st);
@@ -69,6 +69,7 @@ pub fn put_load(code: &mut [u64], raw: Imm40, dst: Dst, st: St) -> Ans
     emit_load(code, raw, d, s)
 }
 
+// The instruction of a fold.
 fn tail_word(tail: Tail, d: u16, a: u16) -> Made
     ensures { λ r. ⌜ r ≡ madeOf (tailOp tail d a) ⌝ }
 {
@@ -81,7 +82,8 @@ fn tail_word(tail: Tail, d: u16, a: u16) -> Made
     }
 }
 
-// The operand is there: its registers from `top` up are released, and the instruction follows.
+// The operand is in a register: an instruction that takes in all the rest. What the operand took is given back first, so that the result may take its
+// place.
 pub fn put_tail(code: &mut [u64], tail: Tail, dst: Dst, top: u16, x: Ans) -> Ans
     ensures { λ r. ⌜ After (now (code .entry)) (now (code .exit)) x r (tailTo tail dst top) ⌝ }
 {
@@ -95,7 +97,7 @@ pub fn put_tail(code: &mut [u64], tail: Tail, dst: Dst, top: u16, x: Ans) -> Ans
     emit(code, tail_word(tail, d, a), d, t)
 }
 
-// Both operands are there, the left one in a.
+// Both operands are in registers, the left one in a: the general form. Only now is the destination written, when the last operand has been read.
 pub fn put_three(code: &mut [u64], op: Three, a: u16, dst: Dst, top: u16, y: Ans) -> Ans
     ensures { λ r. ⌜ After (now (code .entry)) (now (code .exit)) y r (threeTo op a dst top) ⌝ }
 {
@@ -109,7 +111,7 @@ pub fn put_three(code: &mut [u64], op: Three, a: u16, dst: Dst, top: u16, y: Ans
     emit(code, three_word(three_op(op), d, a, b), d, t)
 }
 
-// What is in a register goes to the register d, unless it is that one.
+// The value is in a register: a mov to the register d, unless it is there already.
 pub fn put_mov(code: &mut [u64], d: u16, top: u16, x: Ans) -> Ans
     ensures { λ r. ⌜ After (now (code .entry)) (now (code .exit)) x r (moveTo d top) ⌝ }
 {

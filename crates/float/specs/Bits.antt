@@ -27,6 +27,10 @@ quiet = 0x7ff8_0000_0000_0000
 abbrev pub isNan : ℕ → Bool
 isNan p = ltb infinity (rest p)
 
+-- neither infinite nor a NaN
+abbrev pub isFinite : ℕ → Bool
+isFinite p = ltb (rest p) infinity
+
 -- by the exponent's field and the fraction: a field of 0 has no leading digit
 abbrev pub scaled : ℕ → ℕ → ℕ
 scaled zero t = t

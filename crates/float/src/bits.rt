@@ -2,13 +2,20 @@
 ghost use mathlib.Core.Path.{_≡_};
 ghost use lib.Ieee as Ieee;
 ghost use lib.Ieee.{binary64};
-ghost use Rattle.float.specs.Bits.{isNan};
+ghost use Rattle.float.specs.Bits.{isNan, isFinite};
 
 // Whether a pattern is a NaN's.
 pub fn is_nan(p: u64) -> bool
     ensures { λ r. ⌜ r ≡ isNan p ⌝ }
 {
     p % 0x8000_0000_0000_0000 > 0x7ff0_0000_0000_0000
+}
+
+// Whether a pattern is a number's: neither infinite nor a NaN.
+pub fn is_finite(p: u64) -> bool
+    ensures { λ r. ⌜ r ≡ isFinite p ⌝ }
+{
+    p % 0x8000_0000_0000_0000 < 0x7ff0_0000_0000_0000
 }
 
 // The float of a pattern. The logic has one NaN, so a NaN's payload is lost here.

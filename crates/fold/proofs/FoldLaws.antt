@@ -1,4 +1,4 @@
--- What an operator takes in of a node: the laws of its folds, and of the instruction of two registers. Assumes nothing.
+-- What an operator takes in of a node: the laws of its folds, and of the instruction of two registers.
 use mathlib.Core.Path.{_≡_, refl, sym, ap, _∙_}
 use mathlib.Core.Bool.{Bool, true, false}
 use mathlib.Core.List.{List}
@@ -27,15 +27,16 @@ use Rattle.fold.specs.declared.Fold.the-variants.{Into, General}
 use Rattle.fold.specs.declared.literal.Lit.{Lit}
 use Rattle.fold.specs.declared.literal.Lit.the-variants.{Is, Not}
 use Rattle.fold.specs.declared.literal.Imm.{Imm}
-use Rattle.fold.specs.declared.literal.Imm.the-variants.{Imm16, NoImm}
+use Rattle.fold.specs.declared.literal.Imm.the-variants.{Imm16}
 use Rattle.fold.specs.declared.literal.Amount.{Amount}
 use Rattle.fold.specs.declared.literal.Amount.the-variants.{By, NoShift}
 use Rattle.fold.specs.declared.literal.Run.{Run}
-use Rattle.fold.specs.declared.literal.Run.the-variants.{Ones, Other}
+use Rattle.fold.specs.declared.literal.Run.the-variants.{Ones}
 use Rattle.fold.specs.Literal.{bitRun, constOf, immOf, amountOf, amountLit}
-use Rattle.fold.specs.Fold.{shiftBy, shiftedBy, maskFold, shiftFold, immFold, foldBy, foldLit, minusOne, opFold, takesShift, leftOf, operandOf}
-use Rattle.fold.specs.Nodes.{Operator, Operand}
+use Rattle.fold.specs.Fold.{shiftBy, shiftedBy, maskFold, shiftFold, immFold, foldBy, foldLit, minusOne, takesShift}
+use Rattle.fold.specs.Nodes.{Operator, Operand, opFold, leftOf, operandOf}
 use Rattle.fold.proofs.literal.Literals.{held}
+use Rattle.fold.proofs.Folding.{Folding, general, mask, shift-mask, shift-left, shift-right, plus, minus as less, times, folding}
 use Rattle.fold.proofs.opcodes.KindLaws.{arith-known}
 
 never : {X : Type 0} → _≡_ {A = ℕ} 0 1 → X
@@ -248,34 +249,19 @@ pub ruleset operators = (fold-minus, fold-not, fold-none, fold-lit)
 
 -- ---- the operand that a fold leaves
 
+plain-tail : {tail u : Tail} {X : Type 0} → Into u ≡ Into tail → takesShift u ≡ false → takesShift tail ≡ true → X
+plain-tail {tail} {u} e f t = never (let p : tail ≡ u = cc in let q : takesShift u ≡ true = rw p at t in cc)
+
 -- only a mask takes in a shift, and then there is one
-mask-takes : (s : Amount) (r : Run) {tail : Tail} → maskFold s r ≡ Into tail → takesShift tail ≡ true → (n : ℕ) × (s ≡ By n)
-mask-takes (By k) (Ones lo len) e t = (k, refl)
-mask-takes NoShift (Ones lo len) {tail} e t = never (let p : tail ≡ Tail.Mask lo len = cc in let q : takesShift (Tail.Mask lo len) ≡ true = rw p at t in cc)
-mask-takes (By k) Other e t = never (cc)
-mask-takes NoShift Other e t = never (cc)
-
-shift-takes : (o : Shift) (b : Amount) {tail : Tail} → shiftFold o b ≡ Into tail → takesShift tail ≡ true → ⊥
-shift-takes o (By k) {tail} e t = never (let p : tail ≡ Tail.Shift o k = cc in let q : takesShift (Tail.Shift o k) ≡ true = rw p at t in cc)
-shift-takes o NoShift e t = never (cc)
-
-imm-takes : (o : ImmArith) (b : Imm) {tail : Tail} → immFold o b ≡ Into tail → takesShift tail ≡ true → ⊥
-imm-takes o (Imm16 n) {tail} e t = never (let p : tail ≡ Tail.Imm o n = cc in let q : takesShift (Tail.Imm o n) ≡ true = rw p at t in cc)
-imm-takes o NoImm e t = never (cc)
-
-fold-takes : (o : Arith) (s : Amount) (l : Lit) {tail : Tail} → foldLit o s l ≡ Into tail → takesShift tail ≡ true → (n : ℕ) × (s ≡ By n)
-unfolding foldBy
-fold-takes o s Not e t = never (cc)
-fold-takes bitAnd s (Is z) e t = mask-takes s (bitRun z) e t
-fold-takes bitOr s (Is z) e t = never (cc)
-fold-takes bitXor s (Is z) e t = never (cc)
-fold-takes lshift s (Is z) e t = absurd (shift-takes Shift.Left (amountOf z) e t)
-fold-takes rshift s (Is z) e t = absurd (shift-takes Shift.Right (amountOf z) e t)
-fold-takes add s (Is z) e t = absurd (imm-takes Plus (immOf z) e t)
-fold-takes sub s (Is z) e t = absurd (imm-takes Minus (immOf z) e t)
-fold-takes mul s (Is z) e t = absurd (imm-takes Times (immOf z) e t)
-fold-takes div s (Is z) e t = never (cc)
-fold-takes mod′ s (Is z) e t = never (cc)
+fold-takes : {o : Arith} {s : Amount} {l : Lit} {f : Fold} {tail : Tail} → Folding o s l f → f ≡ Into tail → takesShift tail ≡ true → (n : ℕ) × (s ≡ By n)
+fold-takes general e t = never (cc)
+fold-takes (mask r) e t = plain-tail e refl t
+fold-takes (shift-mask {k} r) e t = (k, refl)
+fold-takes (shift-left r) e t = plain-tail e refl t
+fold-takes (shift-right r) e t = plain-tail e refl t
+fold-takes (plus r) e t = plain-tail e refl t
+fold-takes (less r) e t = plain-tail e refl t
+fold-takes (times r) e t = plain-tail e refl t
 
 module _ {ws : List ℕ} {i : ℕ} (h : Operator ws i) {tail : Tail} (into : opFold (tree ws i) ≡ Into tail) {k : ℕ} (e : k ≡ kindAt ws i) where
   pub operand-one : {j : ℕ} → k ≤ 7 → ChildIs ws i (child1 ws i) j → Operand ws i tail j
@@ -313,7 +299,7 @@ module _ {ws : List ℕ} {i : ℕ} (h : Operator ws i) {tail : Tail} (into : opF
           let g : 7 < kindAt ws i = rw e at l in
           let v = arith-in h g in
           let p = d .is in
-          let w = fold-takes (v .0) (shiftedBy (tree ws (child2 ws i))) (constOf (tree ws (child1 ws i))) (rw (v .1 .is) at into) (sym q ∙ y) in
+          let w = fold-takes (folding (v .0) (shiftedBy (tree ws (child2 ws i))) (constOf (tree ws (child1 ws i)))) (rw (v .1 .is) at into) (sym q ∙ y) in
           shifted-kind {n = w .0} left-node (rw p (w .1))
 
       pub operand-inner : Inner ws a 8

@@ -1,3 +1,4 @@
 -- Laws of folds and tests.
+pub mod Folding
 pub mod FoldLaws
 pub mod TestLaws

@@ -1,4 +1,4 @@
--- What a branch takes in of a node: the laws of comparisons and of their literals. Assumes nothing.
+-- What a branch takes in of a node: the laws of comparisons and of their literals.
 use mathlib.Core.Path.{_≡_, refl, sym, ap, _∙_}
 use mathlib.Core.Bool.{Bool}
 use mathlib.Core.List.{List}
@@ -20,10 +20,8 @@ use Rattle.fold.specs.declared.How.the-variants as How
 use Rattle.fold.specs.declared.Test.the-variants as T
 use Rattle.fold.specs.Literal.{asImm16}
 use Rattle.fold.specs.Opcodes.{mirror, branchOf}
-use Rattle.fold.specs.Fold.{one, comparePick, pickOf}
-use Rattle.fold.specs.Nodes.{Comparison, TestIs}
-
--- ---- the comparisons by the numbers of their kinds
+use Rattle.fold.specs.Fold.{one, comparePick}
+use Rattle.fold.specs.Nodes.{Comparison, TestIs, pickOf}
 
 -- ---- the comparison at a node
 

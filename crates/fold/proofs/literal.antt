@@ -1,2 +1,3 @@
 -- Laws of literals.
 pub mod Literals
+pub mod Runs

@@ -1,8 +1,9 @@
--- What an instruction takes in: a literal, a mask of one run of ones, a shift, the comparison of a branch. Assumes nothing: these are definitions.
-use mathlib.Core.Bool.{Bool, true, false, cond}
+-- What an instruction takes in (01, "Emission rules"): a fixnum on the right of an operator, a literal of a comparison.
+use mathlib.Core.Bool.{Bool, true, false}
 use Prim.Native.Nat.{ℕ}
 use lib.IntN.{ℤ, negsuc}
-use Rattle.table.specs.Tree.{minus, not′, Arith, bitAnd, bitOr, bitXor, lshift, rshift, add, sub, mul, div, mod′, Cmp, Binary, arith, cmp, and, or, Tree, leaf, unary, binary, ternary}
+use Rattle.table.specs.Tree.{Arith, bitAnd, bitOr, bitXor, lshift, rshift, add, sub, mul, div, mod′, Cmp}
+use Rattle.table.specs.Tree.{Binary, arith, cmp, and, or, Tree, leaf, unary, binary, ternary}
 use Rattle.insns.specs.declared.op.Op.{Op}
 use Rattle.insns.specs.declared.op.Two.the-variants as Two
 use Rattle.insns.specs.declared.op.Arith.{Arith as ImmArith}
@@ -23,10 +24,12 @@ use Rattle.fold.specs.declared.How.{How}
 use Rattle.fold.specs.declared.How.the-variants as How
 use Rattle.fold.specs.declared.literal.Run.{Run}
 use Rattle.fold.specs.declared.literal.Run.the-variants.{Ones, Other}
-use Rattle.fold.specs.Literal.{bitRun, fixnum, constOf, immOf, asImm16, amountOf, amountLit}
+use Rattle.fold.specs.Literal.{bitRun, constOf, immOf, amountOf, amountLit}
 use Rattle.fold.specs.Opcodes.{mirror, branchOf}
 
--- the amount of a right shift by a literal
+-- ---- operators: an instruction of one register has a destination, that register and what it takes in, its tail
+
+-- the amount by which a tree is a right shift, if that is a literal from 0 to 63
 unfoldable pub shiftBy : Binary → Tree → Amount
 shiftBy (arith bitAnd) b = NoShift
 shiftBy (arith bitOr) b = NoShift
@@ -48,23 +51,23 @@ shiftedBy (unary o a) = NoShift
 shiftedBy (binary o a b) = shiftBy o b
 shiftedBy (ternary c a b) = NoShift
 
--- ---- folds: what the instruction has beside its destination and one register
-
--- a mask of one run, which takes in a right shift of the left operand
+-- BitAnd by a mask of one run of ones, which takes in a right shift on its left
 abbrev pub maskFold : Amount → Run → Fold
 maskFold (By k) (Ones lo len) = Into (Tail.ShiftMask k lo len)
 maskFold NoShift (Ones lo len) = Into (Tail.Mask lo len)
 maskFold s Other = General
 
+-- a shift by 0 to 63
 abbrev pub shiftFold : Shift → Amount → Fold
 shiftFold o (By k) = Into (Tail.Shift o k)
 shiftFold o NoShift = General
 
+-- Add, Sub and Mul from -32,768 to 32,767
 abbrev pub immFold : ImmArith → Imm → Fold
 immFold o (Imm16 n) = Into (Tail.Imm o n)
 immFold o NoImm = General
 
--- the right operand is the fixnum z, the left one is shifted by s
+-- the right operand is the fixnum z, the left one a right shift by s; if no immediate fits, the general form
 unfoldable pub foldBy : Arith → Amount → ℤ → Fold
 foldBy bitAnd s z = maskFold s (bitRun z)
 foldBy bitOr s z = General
@@ -81,13 +84,15 @@ abbrev pub foldLit : Arith → Amount → Lit → Fold
 foldLit o s (Is z) = foldBy o s z
 foldLit o s Not = General
 
+-- the operator o on the trees a and b
 abbrev pub foldOf : Arith → Tree → Tree → Fold
 foldOf o a b = foldLit o (shiftedBy a) (constOf b)
 
+-- Minus is Mul by -1
 abbrev pub minusOne : Tail
 minusOne = Tail.Imm Times (record { n = negsuc 0 })
 
--- the instruction of a fold, from its destination and its register
+-- the instruction of a tail, from its destination and its register
 abbrev pub tailOp : Tail → ℕ → ℕ → Op
 tailOp Tail.Not d a = Op.Two Two.Not d a
 tailOp (Tail.Imm o n) d a = Op.Arith o d a n
@@ -95,19 +100,7 @@ tailOp (Tail.Shift o k) d a = Op.Shift o d a k
 tailOp (Tail.Mask lo len) d a = Op.BitAndMask d a lo len
 tailOp (Tail.ShiftMask k lo len) d a = Op.RshiftMask d a k lo len
 
--- ---- what one instruction does of a tree
-
--- an operator: what it takes in beside one operand
-unfoldable pub opFold : Tree → Fold
-opFold (leaf l) = General
-opFold (unary minus a) = Into minusOne
-opFold (unary not′ a) = Into Tail.Not
-opFold (binary (arith o) a b) = foldOf o a b
-opFold (binary (cmp c) a b) = General
-opFold (binary and a b) = General
-opFold (binary or a b) = General
-opFold (ternary c a b) = General
-
+-- whether that register holds the left operand of the shift on the left, and not the left operand itself
 abbrev pub takesShift : Tail → Bool
 takesShift Tail.Not = false
 takesShift (Tail.Imm o n) = false
@@ -115,31 +108,14 @@ takesShift (Tail.Shift o k) = false
 takesShift (Tail.Mask lo len) = false
 takesShift (Tail.ShiftMask k lo len) = true
 
-abbrev pub leftOf : Tree → Tree
-leftOf (leaf l) = leaf l
-leftOf (unary o a) = a
-leftOf (binary o a b) = a
-leftOf (ternary c a b) = c
+-- ---- comparisons: a branch tests one operand, against a literal or as a Bool, or compares two registers
 
--- that operand: a mask that takes in a shift has the shift's left operand
-abbrev pub operandOf : Tail → Tree → Tree
-operandOf tail t = cond (takesShift tail) (leftOf (leftOf t)) (leftOf t)
+pub data Picked (A : Type 0) : Type 0 where
+  one : A → How → Picked A
+  two : Picked A
 
--- a branch: the one tree whose value it tests and how, or both sides of a comparison
-pub data Picked : Type 0 where
-  one : Tree → How → Picked
-  both : Picked
-
-abbrev pub comparePick : Cmp → Tree → Tree → Imm → Imm → Bool → Picked
+-- a literal of 16 bits is taken from the right, else from the left with the comparison mirrored; a and b stand for the operands
+abbrev pub comparePick : {A : Type 0} → Cmp → A → A → Imm → Imm → Bool → Picked A
 comparePick c a b l (Imm16 n) sense = one a (How.Imm (branchOf c sense) n)
 comparePick c a b (Imm16 n) NoImm sense = one b (How.Imm (branchOf (mirror c) sense) n)
-comparePick c a b NoImm NoImm sense = both
-
-unfoldable pub pickOf : Tree → Bool → Picked
-pickOf (leaf l) sense = one (leaf l) (How.Bool sense)
-pickOf (unary o a) sense = one (unary o a) (How.Bool sense)
-pickOf (binary (arith o) a b) sense = one (binary (arith o) a b) (How.Bool sense)
-pickOf (binary (cmp c) a b) sense = comparePick c a b (asImm16 a) (asImm16 b) sense
-pickOf (binary and a b) sense = one (binary and a b) (How.Bool sense)
-pickOf (binary or a b) sense = one (binary or a b) (How.Bool sense)
-pickOf (ternary c a b) sense = one (ternary c a b) (How.Bool sense)
+comparePick c a b NoImm NoImm sense = two

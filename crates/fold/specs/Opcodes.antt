@@ -1,8 +1,6 @@
--- The instruction of an operator: that of two registers, or the branch of a comparison. Assumes nothing: these are definitions.
-use mathlib.Core.Bool.{Bool, true, false, _&&_}
-use Prim.Native.Nat.{ℕ}
-use lib.Dec.{leb}
-use Rattle.table.specs.Tree.{Arith, bitAnd, bitOr, bitXor, lshift, rshift, add, sub, mul, div, mod′, Cmp, eq, ne, lt, le, gt, ge, and}
+-- The instruction of an operator: that of two registers, or the branch of a comparison (01, "Emission rules").
+use mathlib.Core.Bool.{Bool, true, false}
+use Rattle.table.specs.Tree.{Arith, bitAnd, bitOr, bitXor, lshift, rshift, add, sub, mul, div, mod′, Cmp, eq, ne, lt, le, gt, ge}
 use Rattle.insns.specs.declared.op.Three.{Three}
 use Rattle.insns.specs.declared.op.Three.the-variants as Three
 use Rattle.insns.specs.declared.op.Cmp.{Cmp as JumpCmp}
@@ -23,7 +21,7 @@ threeOf mod′ = Three.Modulo
 
 -- ---- comparisons
 
--- the comparison that holds with the operands exchanged (`mirror_cmp`)
+-- the comparison that holds with the operands exchanged (`mirror_cmp`): of a NaN too, where neither does
 abbrev pub mirror : Cmp → Cmp
 mirror eq = eq
 mirror ne = ne
@@ -32,7 +30,7 @@ mirror le = ge
 mirror gt = lt
 mirror ge = le
 
--- the branch that is taken where the comparison is `sense` (`cmp_branch_insn`)
+-- the branch that is taken where the comparison is `sense` (`cmp_branch_insn`). A failed a < b is no a >= b: with a NaN both fail
 abbrev pub branchOf : Cmp → Bool → JumpCmp
 branchOf eq true = Jump.Eq
 branchOf ne true = Jump.Ne
@@ -46,11 +44,3 @@ branchOf lt false = Jump.Nlt
 branchOf le false = Jump.Nle
 branchOf gt false = Jump.Ngt
 branchOf ge false = Jump.Nge
-
--- the six comparisons
-abbrev pub isComparison : ℕ → Bool
-isComparison k = leb 18 k && leb k 23
-
--- And and Or
-abbrev pub isJunction : ℕ → Bool
-isJunction k = leb 24 k && leb k 25

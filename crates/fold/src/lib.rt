@@ -1,4 +1,5 @@
-// What an instruction takes in: a literal, a mask of one run of ones, a shift. An attempt answers whether it did. Literals: `literal`; the instruction of an operator: `opcodes`.
+// Which instruction an operator or a test becomes: what it takes in of its operands (here), literals by their size (`literal`) and the opcode of an
+// operator (`opcodes`). An attempt to fold answers an enum; where no immediate fits, the caller emits the general form.
 pub mod literal;
 pub mod opcodes;
 
@@ -14,8 +15,8 @@ ghost use mathlib.Core.Path.{_≡_};
 ghost use Rattle.table.specs.Table.{kindAt};
 ghost use Rattle.table.specs.Nodes.{Inner};
 ghost use Rattle.table.specs.Tree.{Arith as TreeArith, arith, binaryKind, kindOf, tree};
-ghost use Rattle.fold.specs.Fold.{shiftedBy, maskFold, shiftFold, immFold, foldBy, opFold, takesShift, pickOf};
-ghost use Rattle.fold.specs.Nodes.{Operator, Comparison, Operand, TestIs};
+ghost use Rattle.fold.specs.Fold.{shiftedBy, maskFold, shiftFold, immFold, foldBy, takesShift};
+ghost use Rattle.fold.specs.Nodes.{Operator, Comparison, Operand, TestIs, opFold, pickOf};
 
 // An instruction of one register, but for its destination and that register.
 pub enum Tail {
@@ -44,7 +45,8 @@ pub enum Test {
     Two,
 }
 
-// The amount by which node i shifts to the right, if that is a literal.
+// The amount by which node i shifts to the right, if that is a literal. A constant shift that feeds a mask folds into it, which is what pulling a field
+// out of a packed word looks like.
 fn shifted_by(nodes: &[u64], i: usize) -> Amount
     requires { ⌜ Inner (now nodes) i 0 ⌝ }
     ensures { λ r. ⌜ r ≡ shiftedBy (tree (now (nodes .entry)) i) ⌝ }
@@ -59,6 +61,7 @@ fn shifted_by(nodes: &[u64], i: usize) -> Amount
     crate::literal::amount_of(z)
 }
 
+// And with a constant mask folds into the instruction when the mask is a single run of bits, which is what every mask worth folding is.
 fn mask_fold(shift: Amount, run: Run) -> Fold
     ensures { λ r. ⌜ r ≡ maskFold shift run ⌝ }
 {
@@ -71,6 +74,7 @@ fn mask_fold(shift: Amount, run: Run) -> Fold
     Fold::Into(Tail::ShiftMask(k, lo, len))
 }
 
+// A shift by a constant amount folds into the instruction.
 fn shift_fold(op: Shift, by: Amount) -> Fold
     ensures { λ r. ⌜ r ≡ shiftFold op by ⌝ }
 {
@@ -80,6 +84,7 @@ fn shift_fold(op: Shift, by: Amount) -> Fold
     Fold::Into(Tail::Shift(op, k))
 }
 
+// So does a constant integer that fits an immediate operand.
 fn imm_fold(op: Arith, imm: Imm) -> Fold
     ensures { λ r. ⌜ r ≡ immFold op imm ⌝ }
 {
@@ -105,7 +110,8 @@ fn literal_fold(nodes: &[u64], a: usize, k: u64, z: i64) -> Fold
     }
 }
 
-// What the operator at node i takes into its instruction beside one operand. A unary operator has no other: Minus multiplies by -1.
+// What the operator at node i takes into its instruction beside one operand. A unary operator has no other operand: Not has an instruction of its own,
+// and negation is a multiply by -1, which keeps the numeric rules in one place.
 pub fn fold_of(nodes: &[u64], i: usize) -> Fold
     requires { ⌜ Operator (now nodes) i ⌝ }
     ensures { λ r. ⌜ r ≡ opFold (tree (now (nodes .entry)) i) ⌝ }
@@ -124,7 +130,7 @@ pub fn fold_of(nodes: &[u64], i: usize) -> Fold
     literal_fold(nodes, table::child_2(nodes, i), k, z)
 }
 
-// The operand of a fold at node i: the one, the left one, or, of a mask that takes in a shift, the shift's left one.
+// The operand that a fold at node i leaves to be generated: the only one, the left one, or, of a mask that takes in a shift, the shift's left one.
 pub fn operand_of(nodes: &[u64], i: usize, tail: Tail) -> usize
     requires { ⌜ Operator (now nodes) i ⌝ }
     requires { ⌜ opFold (tree (now nodes) i) ≡ Fold.Into tail ⌝ }
@@ -140,6 +146,7 @@ pub fn operand_of(nodes: &[u64], i: usize, tail: Tail) -> usize
     a
 }
 
+// Whether an instruction does the work of its left operand too.
 fn takes_shift(tail: Tail) -> bool
     ensures { λ r. ⌜ r ≡ takesShift tail ⌝ }
 {
@@ -152,7 +159,9 @@ fn takes_shift(tail: Tail) -> bool
     }
 }
 
-// The comparison at node i against a literal of 16 bits: from the right, else from the left with the comparison mirrored.
+// The comparison at node i. An integer literal small enough to encode goes in the instruction rather than a register. A literal on the left is mirrored
+// to the right, which is what swapping the comparison around does. Literals have no side effects, so dropping one leaves the order in which the other
+// operand is evaluated untouched.
 fn compare_of(nodes: &[u64], i: usize, k: u64, sense: bool) -> Test
     requires { ⌜ Comparison (now nodes) i ⌝ }
     requires { ⌜ k ≡ kindAt (now nodes) i ⌝ }

@@ -1,11 +1,11 @@
-// Literals by their size: fixnums, immediates of 16 bits, a shift's amount, a mask of one run of ones. Each answers whether it is one.
+// Literals by their size: fixnums, immediates of 16 and of 40 bits, a shift's amount, a mask of one run of ones.
 use insns::op::Imm16;
 ghost use mathlib.Core.Path.{_≡_};
 ghost use lib.Dec.{ltb};
 ghost use lib.Signed.{mag};
 ghost use Rattle.table.specs.Nodes.{Inner};
 ghost use Rattle.table.specs.Tree.{tree};
-ghost use Rattle.fold.specs.Literal.{bits, bitRun, litOf, constOf, immOf, asImm16, amountOf};
+ghost use Rattle.fold.specs.Literal.{bits, bitRun, fitsImm40, litOf, constOf, immOf, asImm16, amountOf};
 
 // An Int literal, or anything else.
 pub enum Lit {
@@ -47,8 +47,9 @@ fn bits_of(bit: u64, m: u64) -> u64
     n
 }
 
-// A mask that is one run of ones. Runs of more than 62 bits are other masks.
-pub fn bit_run(mask: i64) -> Run
+// A mask that is one run of set bits, as the position of its lowest set bit and the length of the run. Runs of more than 62 bits are rejected, as in
+// the Rust, where a mask must not need boxing; that it is a fixnum `const_value` has tested.
+pub(crate) fn bit_run(mask: i64) -> Run
     ensures { λ r. ⌜ r ≡ bitRun mask ⌝ }
 {
     if mask <= 0 {
@@ -65,6 +66,7 @@ pub fn bit_run(mask: i64) -> Run
     if 62 < top {
         return Run::Other;
     }
+    // Anything left above the run means that the set bits are not contiguous.
     if x >> len != 0 {
         return Run::Other;
     }
@@ -74,19 +76,27 @@ pub fn bit_run(mask: i64) -> Run
 // The ranges of an immediate of 16 bits, of the Int in the immediate of load_imm40, and of a fixnum: -n to n - 1 of each n.
 const IMM16: u64 = 32768;
 
-pub const IMM40: u64 = 137438953472;
+const IMM40: u64 = 137438953472;
 
 const FIXNUM: u64 = 2305843009213693952;
 
 // Whether z is in the range -n to n - 1.
-pub fn within(z: i64, n: u64) -> bool
+fn within(z: i64, n: u64) -> bool
     ensures { λ r. ⌜ r ≡ ltb (mag z) n ⌝ }
 {
     insns::bits::magnitude(z) < n
 }
 
+// Whether an Int can be carried in the immediate field of load_imm40. The field holds the raw bits 4z and sign-extends, so an Int comes back only if
+// the top bits of 4z are already the sign extension of the low 40: z has 38 bits.
+pub fn fits_imm40(z: i64) -> bool
+    ensures { λ r. ⌜ r ≡ fitsImm40 z ⌝ }
+{
+    within(z, IMM40)
+}
+
 // The Int literal at node i.
-pub fn lit_of(nodes: &[u64], i: usize) -> Lit
+fn lit_of(nodes: &[u64], i: usize) -> Lit
     requires { ⌜ Inner (now nodes) i 0 ⌝ }
     ensures { λ r. ⌜ r ≡ litOf (tree (now (nodes .entry)) i) ⌝ }
 {
@@ -96,8 +106,9 @@ pub fn lit_of(nodes: &[u64], i: usize) -> Lit
     Lit::Not
 }
 
-// The fixnum at node i.
-pub fn const_value(nodes: &[u64], i: usize) -> Lit
+// The fixnum that node i is known to hold at the time it is compiled. Callers that need it to fit in an instruction check that themselves, since
+// whether it has to is a property of what they are emitting rather than of the node.
+pub(crate) fn const_value(nodes: &[u64], i: usize) -> Lit
     requires { ⌜ Inner (now nodes) i 0 ⌝ }
     ensures { λ r. ⌜ r ≡ constOf (tree (now (nodes .entry)) i) ⌝ }
 {
@@ -111,7 +122,8 @@ pub fn const_value(nodes: &[u64], i: usize) -> Lit
     Lit::Not
 }
 
-pub fn imm_of(z: i64) -> Imm
+// z as the immediate of an operator or of a branch.
+pub(crate) fn imm_of(z: i64) -> Imm
     ensures { λ r. ⌜ r ≡ immOf z ⌝ }
 {
     if within(z, IMM16) {
@@ -120,8 +132,8 @@ pub fn imm_of(z: i64) -> Imm
     Imm::NoImm
 }
 
-// The literal at node i, if it fits 16 bits.
-pub fn as_imm16(nodes: &[u64], i: usize) -> Imm
+// An integer literal that fits the immediate that a compare and branch carries.
+pub(crate) fn as_imm16(nodes: &[u64], i: usize) -> Imm
     requires { ⌜ Inner (now nodes) i 0 ⌝ }
     ensures { λ r. ⌜ r ≡ asImm16 (tree (now (nodes .entry)) i) ⌝ }
 {
@@ -132,7 +144,8 @@ pub fn as_imm16(nodes: &[u64], i: usize) -> Imm
     imm_of(z)
 }
 
-pub fn amount_of(z: i64) -> Amount
+// z as a shift's amount. Anything below the word size is accepted, which is what lets the instruction itself skip checking the amount.
+pub(crate) fn amount_of(z: i64) -> Amount
     ensures { λ r. ⌜ r ≡ amountOf z ⌝ }
 {
     if z < 0 {

@@ -1,9 +1,11 @@
-// The instruction of an operator, by the number of its kind: that of two registers, or the branch of a comparison.
+// The instruction of an operator, by the number of its kind: that of two registers, or the branch of a comparison. A caller asks only for kinds of
+// that sort, so what any other kind gives is not said (docs/OPEN.md).
 use insns::op::Cmp;
 use insns::op::Three;
 ghost use mathlib.Core.Path.{_≡_};
 ghost use Rattle.table.specs.Tree.{Arith as TreeArith, Cmp as TreeCmp, arith, cmp, binaryKind, kindOf};
-ghost use Rattle.fold.specs.Opcodes.{threeOf, mirror, branchOf, isJunction};
+ghost use Rattle.fold.specs.Opcodes.{threeOf, mirror, branchOf};
+ghost use Rattle.fold.specs.Nodes.{isJunction};
 
 // The instruction of two registers for the binary operator of kind k.
 pub fn three_of(k: u64) -> Three
@@ -23,8 +25,9 @@ pub fn three_of(k: u64) -> Three
     }
 }
 
-// The comparison of kind k with its operands exchanged. Lt becomes Gt, not Ge, so that it holds of a NaN too.
-pub fn mirror_cmp(k: u64) -> u64
+// The comparison that holds when the operands are swapped, for a literal on the left of a compare and branch. Swapping is exact even for NaN: a < b and
+// b > a are both false when either side is unordered. It is negating a comparison that NaN breaks, which is what the jn* instructions are for.
+fn mirror_cmp(k: u64) -> u64
     ensures { λ r. ⌜ ((c : TreeCmp) → kindOf k ≡ binaryKind (cmp c) → kindOf r ≡ binaryKind (cmp (mirror c))) ⌝ }
 {
     match k {
@@ -36,7 +39,9 @@ pub fn mirror_cmp(k: u64) -> u64
     }
 }
 
-// The branch that is taken where the comparison of kind k is `sense`. A failed a < b is no a >= b: with a NaN both fail.
+// The branch that a comparison compiles to, for either sense of the test; it serves two registers and a register with a literal alike
+// (`cmp_branch_insn` and `cmp_branch_imm` in the Rust). NaN is unordered, so an ordered comparison and its opposite are both false for it, and neither is
+// the negation of the other: each sense has its own instruction. Equality does invert exactly, NaN included, so != serves as the negation of ==.
 pub fn cmp_branch(k: u64, sense: bool) -> Cmp
     ensures { λ r. ⌜ ((c : TreeCmp) → kindOf k ≡ binaryKind (cmp c) → r ≡ branchOf c sense) ⌝ }
 {
@@ -60,14 +65,14 @@ pub fn cmp_branch(k: u64, sense: bool) -> Cmp
     }
 }
 
-// The same branch with the operands exchanged.
-pub fn mirrored_branch(k: u64, sense: bool) -> Cmp
+// The same branch with the operands swapped.
+pub(crate) fn mirrored_branch(k: u64, sense: bool) -> Cmp
     ensures { λ r. ⌜ ((c : TreeCmp) → kindOf k ≡ binaryKind (cmp c) → r ≡ branchOf (mirror c) sense) ⌝ }
 {
     cmp_branch(mirror_cmp(k), sense)
 }
 
-// Whether a kind is And or Or.
+// Whether a kind is And or Or, whose branch is made of their operands' branches.
 pub fn is_junction(k: u64) -> bool
     ensures { λ r. ⌜ r ≡ isJunction k ⌝ }
 {

@@ -32,6 +32,7 @@ pub fn times_fits(neg: bool, x: u64, y: u64) -> bool
     x <= 0x7fff_ffff_ffff_ffff / y
 }
 
+// The pattern of the product with its sign, or 0 where it does not fit: then it is not multiplied at all.
 pub fn times(neg: bool, x: u64, y: u64) -> u64
     ensures { λ r. ⌜ r ≡ fitted (withSign neg (x * y)) ⌝ }
 {
@@ -42,7 +43,8 @@ pub fn times(neg: bool, x: u64, y: u64) -> u64
     }
 }
 
-// Whether 64 bits hold the exact result.
+// Whether 64 bits hold the exact result. Raised patterns stand in the order of their numbers, so a sum or a difference is in range by one unsigned
+// comparison, on either side of 2^63.
 pub fn fits(op: Overflowing, p: u64, q: u64) -> bool
     ensures { λ r. ⌜ r ≡ inRange (arith op (toZ w64 p) (toZ w64 q)) ⌝ }
 {

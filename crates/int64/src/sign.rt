@@ -36,13 +36,14 @@ pub fn raised(p: u64) -> u64
     std::num::wrapping_add_u64(p, 0x8000_0000_0000_0000)
 }
 
+// Whether the number is below 0.
 pub fn negative(p: u64) -> bool
     ensures { λ r. ⌜ r ≡ Sign.negative (toZ w64 p) ⌝ }
 {
     p >= 0x8000_0000_0000_0000
 }
 
-// The absolute value.
+// The absolute value, which an i64 of -2^63 could not hold.
 pub fn size(p: u64) -> u64
     ensures { λ r. ⌜ r ≡ natAbs (toZ w64 p) ⌝ }
 {

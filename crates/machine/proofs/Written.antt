@@ -5,10 +5,10 @@ use Prim.Native.Nat.{ℕ, _*_, _-_, _<_, _^_}
 use native.Mathlib.Nat.{mod-lt, lt-of-le-of-lt}
 use native.Mathlib.Omega.{arith}
 use lib.Dec.{ltb, eqb, lit<}
-use lib.IntN.{ℤ, pos, _*ℤ_}
-use lib.Signed.{mag-shr}
+use lib.IntN.{ℤ, pos, negsuc, _*ℤ_}
+use lib.Signed.{shrZ, mag-shr}
 use mir.Syntax.{w64}
-use mir.Val.{SFits, ofZ}
+use mir.Val.{SFits}
 use mir.Facts.{sfits-toZ}
 use Rattle.faults.specs.Numbers.{badShift}
 use Rattle.int64.specs.Int as I
@@ -57,9 +57,17 @@ boths k (is x) (is y) h g = binaries k x y (h .back) (g .back)
 boths k (is x) (fault n) h g = record { back = tt }
 boths k (fault n) y h g = record { back = tt }
 
+quarter : (z : ℤ) → SFits w64 z → Held (literal (shrZ z 4))
+quarter z s = record { back = record { sfits = lt-of-le-of-lt (mag-shr z 4) (s .sfits) } }
+
 raws : (z : ℤ) → SFits w64 z → Held (rawOf z)
 unfolding rawOf
-raws z s = picks (eqb (ofZ w64 z) 1) (record { back = tt }) (picks (eqb (ofZ w64 z) 5) (record { back = tt }) (picks (eqb (ofZ w64 z) 9) (record { back = tt }) (record { back = record { sfits = lt-of-le-of-lt (mag-shr z 4) (s .sfits) } })))
+raws (pos n) s =
+    picks (eqb n 1) (record { back = tt })
+    (picks (eqb n 5) (record { back = tt })
+    (picks (eqb n 9) (record { back = tt })
+    (quarter (pos n) s)))
+raws (negsuc n) s = quarter (negsuc n) s
 
 masks : (lo len : ℕ) → Held (mask lo len)
 unfolding maskOf

@@ -67,6 +67,7 @@ fn floats(op: float::Op, x: Whole, y: Whole) -> Answer
     }
 }
 
+// Kinds are looked at before anything is converted: 20 comes before 23.
 fn as_floats(op: float::Op, a: Number, b: Number) -> Answer
     ensures { λ r. ⌜ resultOf r ≡ Ops.asFloats op (shown a) (shown b) ⌝ }
 {

@@ -7,7 +7,8 @@ use machine::step::step;
 use value::pairs::all_well;
 ghost use mathlib.Core.Path.{_≡_};
 ghost use lib.ListN.{length};
-ghost use Prim.Native.Nat.{_<_, _≤_, _^_};
+ghost use Prim.Native.Nat.{_<_, _≤_};
+ghost use Rattle.fast.specs.Plan.{Within};
 ghost use Rattle.machine.specs.Step.{after, stepOf};
 ghost use Rattle.machine.specs.Run.{out, runFrom, runOf, runPartOf};
 
@@ -41,12 +42,8 @@ fn next(
     slot_payloads: &[u64],
 ) -> Stepped
     requires { ⌜ at < length (now words) ⌝ }
-    requires { ⌜ room ≤ length (now kinds) ⌝ }
-    requires { ⌜ room ≤ length (now payloads) ⌝ }
-    requires { ⌜ room ≤ 2 ^ 16 ⌝ }
-    requires { ⌜ slots ≤ length (now «slot_kinds») ⌝ }
-    requires { ⌜ slots ≤ length (now «slot_payloads») ⌝ }
-    requires { ⌜ slots ≤ 2 ^ 32 ⌝ }
+    requires { ⌜ Within 16 room (now kinds) (now payloads) ⌝ }
+    requires { ⌜ Within 32 slots (now «slot_kinds») (now «slot_payloads») ⌝ }
     ensures { λ r. ⌜ after r (now (kinds .exit)) (now (payloads .exit))
         ≡ stepOf (now (words .entry)) (now («slot_kinds» .entry)) (now («slot_payloads» .entry)) at (now (kinds .entry)) (now (payloads .entry)) ⌝ }
 {

@@ -1,4 +1,4 @@
--- The starred samples hold: one list, one claim, by computation. Assumes nothing.
+-- The starred samples hold: one list, one claim, by computation.
 use mathlib.Core.Path.{_≡_, refl}
 use mathlib.Core.List.{List, [], _∷_, map}
 use Prim.Native.Nat.{ℕ, zero, suc, _<_, _^_}

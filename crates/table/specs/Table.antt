@@ -7,6 +7,7 @@ use lib.Dec.{leb, ltb, eqb}
 use lib.ListN.{length, getD}
 use Rattle.faults.specs.Faults.{fault, _or-else_}
 use Rattle.faults.specs.Limits.{maxNodes, maxDepth, maxRegisters}
+use Rattle.float.specs.Bits.{isFinite}
 use Rattle.faults.specs.Numbers.{badShape, badNode, tooDeep, notLocal, noRegister}
 use Rattle.table.specs.declared.Dest.{Dest}
 use Rattle.table.specs.declared.Dest.the-variants.{None, Reg}
@@ -53,9 +54,12 @@ tempBase base = max base 1
 unfoldable pub arity : ℕ → ℕ
 arity k = cond (leb k 5) 0 (cond (leb k 7) 1 (cond (leb k 25) 2 3))
 
--- the kind is known, and the payload is 0 but for kinds 3 to 5
+-- the kind is known, the payload is 0 but for kinds 3 to 5, and a Float literal, kind 4, is finite
 abbrev pub kindFault : ℕ → ℕ → ℕ
-kindFault k p = fault (ltb 26 k) badNode or-else fault (not (eqb p 0) && not (leb 3 k && leb k 5)) badNode
+kindFault k p =
+    fault (ltb 26 k) badNode
+    or-else fault (not (eqb p 0) && not (leb 3 k && leb k 5)) badNode
+    or-else fault (eqb k 4 && not (isFinite p)) badNode
 
 -- the n children whose last one ends just before position e: one is missing, or they begin at a lowest node and have a greatest depth, d or more
 unfoldable pub children : List ℕ → ℕ → ℕ → ℕ → Span

@@ -24,7 +24,7 @@ fn either(a: bool, n: u8, b: bool, m: u8) -> u8
     faults::NONE
 }
 
-// The kind is known, and the payload is 0 but for kinds 3 to 5.
+// The kind is known, the payload is 0 but for kinds 3 to 5, and a Float literal is finite: no editor writes another, so that one is damage.
 fn kind_fault(k: u64, p: u64) -> u8
     ensures { λ r. ⌜ r ≡ kindFault k p ⌝ }
 {
@@ -32,11 +32,12 @@ fn kind_fault(k: u64, p: u64) -> u8
     either(
         crate::TERNARY < k,
         faults::BAD_NODE,
-        (p != 0) & idle,
+        ((p != 0) & idle) | ((k == crate::FLOAT) & !float::bits::is_finite(p)),
         faults::BAD_NODE,
     )
 }
 
+// First and depth are what the children give. Everything above relies on them: the children's places on first, the end of every recursion on depth.
 fn span_fault(s: Span, f: usize, d: u64) -> u8
     ensures { λ r. ⌜ r ≡ spanFault s f d ⌝ }
 {
@@ -109,6 +110,7 @@ fn nodes_fault(nodes: &[u64], base: u64) -> u8
     faults::NONE
 }
 
+// Some node, whole nodes only, and no more than the limit.
 fn shape_fault(nodes: &[u64]) -> u8
     ensures { λ r. ⌜ r ≡ shapeFault (now (nodes .entry)) ⌝ }
 {
@@ -125,6 +127,7 @@ fn shape_fault(nodes: &[u64]) -> u8
     faults::NONE
 }
 
+// Tested by a difference: the sum of two counts that a caller gives might not fit 64 bits.
 fn layout_fault(params: u64, locals: u64) -> u8
     ensures { λ r. ⌜ r ≡ layoutFault params locals ⌝ }
 {
@@ -137,6 +140,7 @@ fn layout_fault(params: u64, locals: u64) -> u8
     faults::NONE
 }
 
+// A destination is a local: a register from the base up may be in use for a temporary.
 fn dest_fault(dest: Dest, base: u64) -> u8
     ensures { λ r. ⌜ r ≡ destFault dest base ⌝ }
 {
@@ -152,6 +156,7 @@ fn dest_fault(dest: Dest, base: u64) -> u8
     }
 }
 
+// The last node is the root. Its subtree takes in every node, so that none is left that no one evaluates.
 fn last_fault(nodes: &[u64]) -> u8
     requires { ⌜ 0 < nodeCount (now nodes) ⌝ }
     ensures { λ r. ⌜ r ≡ lastFault (now (nodes .entry)) ⌝ }

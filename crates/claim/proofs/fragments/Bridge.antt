@@ -11,7 +11,7 @@ use lib.Dec.{eqb}
 use Rattle.faults.specs.Limits.{maxRegisters}
 use Rattle.insns.specs.declared.op.Op.{Op}
 use Rattle.insns.specs.declared.op.Three.{Three}
-use Rattle.insns.specs.Insns.{threeOp}
+use Rattle.insns.specs.Opcodes.{threeOp}
 use Rattle.insns.specs.declared.op.Shift.{Shift}
 use Rattle.insns.specs.declared.op.Cmp.{Cmp as JumpCmp}
 use Rattle.insns.specs.declared.op.Imm40.{Imm40}
@@ -33,7 +33,7 @@ use Rattle.fold.specs.declared.literal.Imm.the-variants.{Imm16, NoImm}
 use Rattle.fold.specs.declared.How.{How}
 use Rattle.fold.specs.declared.How.the-variants as How
 use Rattle.fold.specs.Literal.{fitsImm40, asImm16}
-use Rattle.fold.specs.Fold.{minusOne, foldOf, tailOp}
+use Rattle.fold.specs.Fold.{minusOne, foldOf, tailOp, takesShift}
 use Rattle.fold.specs.Opcodes.{threeOf, mirror, branchOf}
 use Rattle.emit.specs.State.{Res, done, fail, bind, State, release, emitD}
 use Rattle.emit.specs.Jump.{jumpD}
@@ -617,14 +617,11 @@ module _ (need : Amounts) (room cap slotCap : ℕ) (near : need .words ≤ far) 
   arith-met (Into tail) o g g₁ h v v₁ w u x fit is m m₁ m' =
       less-V (oneV tail (operand tail g g₁)) (tailF tail (operandF tail v v₁))
       (record { registers = omega linear; slots = omega linear; words = omega linear; places = omega linear })
-      (tail-met tail (operand tail g g₁) (operandF tail v v₁) u fit (taken tail))
+      (tail-met tail (operand tail g g₁) (operandF tail v v₁) u fit (taken (takesShift tail)))
     where
-      taken : (tail : Tail) → VMet u (operand tail g g₁) (operandF tail v v₁)
-      taken Tail.Not = m
-      taken (Tail.Imm o z) = m
-      taken (Tail.Shift o k) = m
-      taken (Tail.Mask lo len) = m
-      taken (Tail.ShiftMask k lo len) = m₁
+      taken : (t : Bool) → VMet u (cond t g₁ g) (cond t v₁ v)
+      taken true = m₁
+      taken false = m
 
   test-met : (sense : Bool) (g : Value) (v : ValueF) (u : Amounts) → 0 < u .places → VMet u g v → TMet u (testB g sense) (unaryTestF v (testOn sense))
   unfolding oneB leapTo

@@ -1,6 +1,6 @@
 -- The generator's words as position-free fragments: what is emitted, with every displacement in place. A fragment depends on its destination, its
 -- first free register n and the slots taken so far. A branch fragment is given in addition the number of words between its end and the place where its
--- jumps go. Assumes nothing: these are definitions.
+-- jumps go.
 use Prim.Native.Nat.{ℕ, suc, _+_, _<_, max}
 use mathlib.Core.Logic.{_≢_}
 use mathlib.Core.Bool.{Bool, true, false, not, cond}
@@ -28,10 +28,11 @@ use Rattle.fold.specs.declared.Tail.the-variants as Tail
 use Rattle.fold.specs.declared.Fold.{Fold}
 use Rattle.fold.specs.declared.Fold.the-variants.{Into, General}
 use Rattle.fold.specs.declared.literal.Imm.{Imm}
-use Rattle.fold.specs.declared.literal.Imm.the-variants.{Imm16, NoImm}
+use Rattle.fold.specs.declared.How.{How}
+use Rattle.fold.specs.declared.How.the-variants as How
 use Rattle.fold.specs.Literal.{fitsImm40, asImm16}
-use Rattle.fold.specs.Fold.{foldOf, minusOne, tailOp}
-use Rattle.fold.specs.Opcodes.{threeOf, mirror, branchOf}
+use Rattle.fold.specs.Fold.{foldOf, minusOne, tailOp, takesShift, Picked, one, two, comparePick}
+use Rattle.fold.specs.Opcodes.{threeOf, branchOf}
 use Rattle.emit.specs.Steps.{loadOp, rawNil, rawTrue, rawFalse, rawInt}
 use Rattle.codegen.specs.Gen.{same}
 
@@ -58,6 +59,10 @@ pairOn c r q = Branch.Jump c r q
 
 abbrev pub immOn : JumpCmp → Small → ℕ → Branch
 immOn c z r = Branch.JumpImm c r z
+
+abbrev pub howOn : How → ℕ → Branch
+howOn (How.Bool s) = testOn s
+howOn (How.Imm c z) = immOn c z
 
 -- ---- destinations
 
@@ -193,20 +198,18 @@ abbrev pub tailF : Tail → ValueF → ValueF
 tailF tail v = unaryF v (tailOp tail)
 
 abbrev pub operandF : Tail → ValueF → ValueF → ValueF
-operandF Tail.Not a first = a
-operandF (Tail.Imm o n) a first = a
-operandF (Tail.Shift o k) a first = a
-operandF (Tail.Mask lo len) a first = a
-operandF (Tail.ShiftMask k lo len) a first = first
+operandF tail a first = cond (takesShift tail) first a
 
 abbrev pub arithF : Fold → Three → ValueF → ValueF → ValueF → ValueF
 arithF (Into tail) op a first b = tailF tail (operandF tail a first)
 arithF General op a first b = binaryF a b (Op.Three op)
 
+abbrev pub pickedF : Picked ValueF → (ℕ → List Datum → Bf) → ℕ → List Datum → Bf
+pickedF (one a how) both = unaryTestF a (howOn how)
+pickedF two both = both
+
 abbrev pub compareF : Cmp → Imm → Imm → ValueF → ValueF → BranchF
-compareF c left (Imm16 n) a b sense = unaryTestF a (immOn (branchOf c sense) n)
-compareF c (Imm16 n) NoImm a b sense = unaryTestF b (immOn (branchOf (mirror c) sense) n)
-compareF c NoImm NoImm a b sense = binaryTestF a b (pairOn (branchOf c sense))
+compareF c left right a b sense = pickedF (comparePick c a b left right sense) (binaryTestF a b (pairOn (branchOf c sense)))
 
 -- where the left side's jumps go, counted from the right side's end: to the caller's target (true), or to the end
 abbrev pub juncF : Bf → Bf → Bool → Bf

@@ -1,17 +1,17 @@
 -- What folds and branches rest on, as laws over values: an immediate is its value, a mask word's mask is the literal that it was made of, an operator with a
--- literal is the operator, a branch of the other sense is the opposite, and a mirrored comparison is the comparison. Assumes nothing.
+-- literal is the operator, a branch of the other sense is the opposite, and a mirrored comparison is the comparison.
 use mathlib.Core.Path.{_≡_, refl, sym, ap, _∙_}
 use mathlib.Core.Bool.{Bool, true, false, cond, _&&_}
 use Prim.Native.Nat.{ℕ, zero, suc, _+_, _-_, _*_, _/_, _%_, _^_, _≤_, _<_}
 use native.Mathlib.Omega.{arith}
-use native.Mathlib.Nat.{mul-div-right, div-eq-of-lt-le, mod-add-div, pow-succ', pow-le-pow-right, mod-eq-of-lt, mul-assoc, mul-suc, mul-one, one-mul, mul-comm, suc-mul}
+use native.Mathlib.Nat.{div-eq-of-lt-le, pow-le-pow-right, mod-eq-of-lt, mul-suc}
 use lib.Dec.{leb, eqb}
 use lib.IntN.{ℤ, pos, negsuc, negℤ}
 use lib.Signed.{ltZ}
 use lib.Pow.{pow-add, pow-pos}
 use mir.Syntax.{w64}
 use mir.Val.{toZ}
-use borrow.Author.Tests.{ltb-true, eqb-true, ne-eqb, lt-ltb, leb-true}
+use borrow.Author.Tests.{eqb-true, ne-eqb, lt-ltb, leb-true}
 use Rattle.insns.specs.declared.op.Sense.the-variants as Sense
 use Rattle.value.specs.Value.{Datum, nil, bool, int, float}
 use Rattle.value.specs.Answer.{Result, is, fault, truth as yes, isNumber}
@@ -28,8 +28,7 @@ use Rattle.effect.specs.Forms as Forms
 use Rattle.table.specs.Tree.{Arith, bitAnd, bitOr, bitXor, lshift, rshift, add, sub, mul, div, mod′, Cmp, eq, ne, lt, le, gt, ge}
 use Rattle.eval.specs.Eval as E
 use Rattle.eval.specs.Apply as Apply
-use Rattle.fold.specs.declared.literal.Run.the-variants.{Ones, Other}
-use Rattle.fold.specs.Literal.{fitsImm40, bits, runAt, runFrom, bitRun}
+use Rattle.fold.specs.Literal.{fitsImm40, OneRun}
 use Rattle.fold.specs.Opcodes.{threeOf, mirror, branchOf}
 use Rattle.emit.specs.Steps.{rawNil, rawTrue, rawFalse, rawInt}
 use Rattle.claim.proofs.fragments.Runs.{Truth, truth, wrong, test, sameT}
@@ -59,10 +58,7 @@ unfolding M.rawOf
 raw-int (pos n) h =
     rw (ne-eqb (4 * n) 1 (omega arith), ne-eqb (4 * n) 5 (omega arith), ne-eqb (4 * n) 9 (omega arith))
     (ap (λ (k : ℕ). is (int (pos k))) (mul-div-right n (omega arith)))
-raw-int (negsuc n) h =
-    let small : n < 2 ^ 37 = ltb-true n (2 ^ 37) h in
-    let m = 2 ^ 64 - suc (4 * n + 3) in
-    rw (raw-down n, ne-eqb m 1 (omega arith), ne-eqb m 5 (omega arith), ne-eqb m 9 (omega arith)) (ap (λ (k : ℕ). is (int (negsuc k))) (quarter n))
+raw-int (negsuc n) h = rw (raw-down n) (ap (λ (k : ℕ). is (int (negsuc k))) (quarter n))
 
 -- ---- one run of ones
 
@@ -70,96 +66,21 @@ pub and-both : (a b : Bool) → a && b ≡ true → (a ≡ true) × (b ≡ true)
 and-both true b h = (refl, h)
 and-both false b h = let z : _≡_ {A = ℕ} 0 1 = cc in absurd (omega arith)
 
--- the counted zeros are there
-zeros-are : (f n : ℕ) → (q : ℕ) × (n ≡ 2 ^ bits 0 f n * q)
-unfolding bits
-zeros-are zero n = (n, sym (one-mul n))
-zeros-are (suc f) n = go (eqb (n % 2) 0) refl (zeros-are f (n / 2))
-  where
-    go :
-        (b : Bool) → eqb (n % 2) 0 ≡ b → ((q : ℕ) × (n / 2 ≡ 2 ^ bits 0 f (n / 2) * q)) →
-        (q : ℕ) × (n ≡ 2 ^ cond b (suc (bits 0 f (n / 2))) 0 * q)
-    go false e r = (n, sym (one-mul n))
-    go true e r =
-        let k = bits 0 f (n / 2) in
-        let even : n ≡ 2 * (n / 2) = omega (arith, mod-add-div n 2, eqb-true (n % 2) 0 e) in
-        (r .0, even ∙ ap (λ (x : ℕ). 2 * x) (r .1) ∙ sym (mul-assoc 2 (2 ^ k) (r .0)) ∙ ap (λ (x : ℕ). x * r .0) (sym (pow-succ' 2 k)))
-
--- the counted ones are there
-ones-are : (f n : ℕ) → (q : ℕ) × (suc n ≡ 2 ^ bits 1 f n * suc q)
-unfolding bits
-ones-are zero n = (n, sym (one-mul (suc n)))
-ones-are (suc f) n = go (eqb (n % 2) 1) refl (ones-are f (n / 2))
-  where
-    go :
-        (b : Bool) → eqb (n % 2) 1 ≡ b → ((q : ℕ) × (suc (n / 2) ≡ 2 ^ bits 1 f (n / 2) * suc q)) →
-        (q : ℕ) × (suc n ≡ 2 ^ cond b (suc (bits 1 f (n / 2))) 0 * suc q)
-    go false e r = (n, sym (one-mul (suc n)))
-    go true e r =
-        let k = bits 1 f (n / 2) in
-        let odd : suc n ≡ 2 * suc (n / 2) = omega (arith, mod-add-div n 2, eqb-true (n % 2) 1 e) in
-        (r .0, odd ∙ ap (λ (x : ℕ). 2 * x) (r .1) ∙ sym (mul-assoc 2 (2 ^ k) (suc (r .0))) ∙ ap (λ (x : ℕ). x * suc (r .0)) (sym (pow-succ' 2 k)))
-
-div-past : (n x q : ℕ) → 0 < x → suc n ≡ x * suc q → n / x ≡ q
-div-past n x q h e =
-    div-eq-of-lt-le x (omega (arith, mul-suc x q, mul-comm x q)) (omega (arith, mul-suc x q, mul-comm x q, suc-mul q x))
-
--- a mask word's mask, of one run
-pub record Mask (z : ℤ) (lo len : ℕ) : Type 0 where
-  pub short : lo + len ≤ 62
-  pub reads : toZ w64 (maskOf lo len) ≡ z
-
-mask-of : (m k l : ℕ) → k ≡ bits 0 64 m → l ≡ bits 1 64 (m / 2 ^ k) → m / 2 ^ k / 2 ^ l ≡ 0 → k + l ≤ 62 → Mask (pos m) k l
+-- a mask word of that run reads as the number
+pub mask-is : (z : ℤ) (lo len : ℕ) → OneRun z lo len → toZ w64 (maskOf lo len) ≡ z
 unfolding maskOf
-mask-of m k l ek el none short = record { short = short; reads = cut }
+mask-is z lo len r = cut ∙ sym (r .is)
   where
-    shift : (q : ℕ) × (m ≡ 2 ^ k * q)
-    shift = rw ek (zeros-are 64 m)
-
-    run : (q : ℕ) × (suc (m / 2 ^ k) ≡ 2 ^ l * suc q)
-    run = rw el (ones-are 64 (m / 2 ^ k))
-
-    body : m / 2 ^ k ≡ 2 ^ l - 1
-    body =
-        let z : run .0 ≡ 0 = sym (div-past (m / 2 ^ k) (2 ^ l) (run .0) (pow-pos l) (run .1)) ∙ none in
-        let e : suc (m / 2 ^ k) ≡ 2 ^ l * 1 = run .1 ∙ ap (λ (q : ℕ). 2 ^ l * suc q) z in
-        omega (arith, mul-one (2 ^ l))
-
-    is-mask : m ≡ 2 ^ k * (2 ^ l - 1)
-    is-mask = shift .1 ∙ ap (λ (q : ℕ). 2 ^ k * q) (sym (mul-div-right (shift .0) (pow-pos k)) ∙ ap (λ (n : ℕ). n / 2 ^ k) (sym (shift .1)) ∙ body)
-
-    low : m < 2 ^ 62
+    low : 2 ^ lo * (2 ^ len - 1) < 2 ^ 62
     low =
-        let e : 2 ^ k * 2 ^ l ≡ 2 ^ (k + l) = sym (pow-add 2 k l) in
-        let u : 2 ^ (k + l) ≤ 2 ^ 62 = pow-le-pow-right (omega arith) short in
-        let s : 2 ^ k * suc (2 ^ l - 1) ≡ 2 ^ k * 2 ^ l = ap (λ (x : ℕ). 2 ^ k * x) (omega (arith, pow-pos l)) in
-        omega (arith, is-mask, mul-suc (2 ^ k) (2 ^ l - 1), pow-pos k)
+        let e : 2 ^ lo * 2 ^ len ≡ 2 ^ (lo + len) = sym (pow-add 2 lo len) in
+        let u : 2 ^ (lo + len) ≤ 2 ^ 62 = pow-le-pow-right (omega arith) (r .short) in
+        let s : 2 ^ lo * suc (2 ^ len - 1) ≡ 2 ^ lo * 2 ^ len = ap (λ (x : ℕ). 2 ^ lo * x) (omega (arith, pow-pos len)) in
+        omega (arith, mul-suc (2 ^ lo) (2 ^ len - 1), pow-pos lo)
 
-    cut : toZ w64 (maskOf k l) ≡ pos m
-    cut = rw (← is-mask, mod-eq-of-lt {n = m} {m = 2 ^ 64} (omega (arith, low)), lt-ltb m (2 ^ 63) (omega (arith, low)))
-
-pub mask-is : (z : ℤ) (lo len : ℕ) → bitRun z ≡ Ones lo len → Mask z lo len
-unfolding bitRun runFrom runAt
-mask-is (negsuc m) lo len h = let z : _≡_ {A = ℕ} 0 1 = cc in absurd (omega arith)
-mask-is (pos m) lo len h = go (eqb m 0) h
-  where
-    k : ℕ
-    k = bits 0 64 m
-
-    l : ℕ
-    l = bits 1 64 (m / 2 ^ k)
-
-    ran : (b : Bool) → eqb (m / 2 ^ k / 2 ^ l) 0 && leb (k + l) 62 ≡ b → cond b (Ones k l) Other ≡ Ones lo len → Mask (pos m) lo len
-    ran false e h = let z : _≡_ {A = ℕ} 0 1 = cc in absurd (omega arith)
-    ran true e h =
-        let s = and-both (eqb (m / 2 ^ k / 2 ^ l) 0) (leb (k + l) 62) e in
-        let a : k ≡ lo = cc in
-        let b : l ≡ len = cc in
-        rw (← a, ← b) (mask-of m k l refl refl (eqb-true (m / 2 ^ k / 2 ^ l) 0 (s .0)) (leb-true (k + l) 62 (s .1)))
-
-    go : (b : Bool) → cond b Other (runFrom m k) ≡ Ones lo len → Mask (pos m) lo len
-    go true h = let z : _≡_ {A = ℕ} 0 1 = cc in absurd (omega arith)
-    go false h = ran (eqb (m / 2 ^ k / 2 ^ l) 0 && leb (k + l) 62) refl h
+    cut : toZ w64 (maskOf lo len) ≡ pos (2 ^ lo * (2 ^ len - 1))
+    cut =
+        rw (mod-eq-of-lt {n = 2 ^ lo * (2 ^ len - 1)} {m = 2 ^ 64} (omega (arith, low)), lt-ltb (2 ^ lo * (2 ^ len - 1)) (2 ^ 63) (omega (arith, low)))
 
 -- ---- operators: the machine's by number, the tree's by name
 

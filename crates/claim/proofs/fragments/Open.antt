@@ -1,5 +1,5 @@
 -- Jumps that are patched later. The words of a branch are emitted with displacement 0 and their jumps are open: patched to any place behind, they are the
--- fragment's words for that place. Assumes nothing.
+-- fragment's words for that place.
 use mathlib.Core.Path.{_≡_, refl, sym, ap, _∙_}
 use mathlib.Core.Bool.{Bool, true, false, cond}
 use mathlib.Core.List.{List, [], _∷_, _++_, append-assoc}

@@ -1,4 +1,4 @@
--- Instructions at a place among words, paths of the machine, and how runs are put one after the other. No tree is named here. Assumes nothing.
+-- Instructions at a place among words, paths of the machine, and how runs are put one after the other. No tree is named here.
 use mathlib.Core.Path.{_≡_, refl, ap, _∙_, subst}
 use mathlib.Core.Bool.{Bool, true, false, cond}
 use mathlib.Core.List.{List, [], _∷_, _++_, append-assoc}

@@ -1,5 +1,5 @@
 -- Each form of fragment does what its operands' results say. Operands are fragments and results, never trees; operations are any functions of results
--- that hand an operand's fault on. Assumes nothing.
+-- that hand an operand's fault on.
 use mathlib.Core.Path.{_≡_, refl, ap, ap₂, _∙_, subst, sym}
 use mathlib.Core.Bool.{Bool, true, false, not, cond}
 use mathlib.Core.List.{List, [], _∷_, _++_, append-assoc}

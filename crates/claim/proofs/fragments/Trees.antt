@@ -1,4 +1,4 @@
--- Every tree's fragment does what the tree's value says: peeking at literals, and the induction. Assumes nothing.
+-- Every tree's fragment does what the tree's value says: peeking at literals, and the induction.
 use mathlib.Core.Path.{_≡_, refl, sym, ap, _∙_, subst}
 use mathlib.Core.Bool.{Bool, true, false, not, cond}
 use mathlib.Core.List.{List, [], _++_}
@@ -8,12 +8,8 @@ use lib.IntN.{ℤ, pos, negsuc}
 use lib.Dec.{ltb}
 use Rattle.insns.specs.declared.op.Op.{Op}
 use Rattle.insns.specs.declared.op.Three.{Three}
-use Rattle.insns.specs.declared.op.Arith.{Arith as ImmArith}
-use Rattle.insns.specs.declared.op.Arith.the-variants.{Plus, Minus, Times}
 use Rattle.insns.specs.declared.op.Imm16.{Imm16 as Small}
 use Rattle.insns.specs.declared.op.Imm40.{Imm40}
-use Rattle.insns.specs.declared.op.Shift.{Shift}
-use Rattle.insns.specs.declared.op.Shift.the-variants as Shift
 use Rattle.insns.specs.declared.op.Sense.the-variants as Sense
 use Rattle.int64.specs.declared.order.Cmp.{Cmp as ValueCmp}
 use Rattle.int64.specs.declared.order.Cmp.the-variants as VC
@@ -42,16 +38,16 @@ use Rattle.fold.specs.declared.literal.Imm.{Imm}
 use Rattle.fold.specs.declared.literal.Imm.the-variants.{Imm16, NoImm}
 use Rattle.fold.specs.declared.literal.Amount.{Amount}
 use Rattle.fold.specs.declared.literal.Amount.the-variants.{By, NoShift}
-use Rattle.fold.specs.declared.literal.Run.{Run}
-use Rattle.fold.specs.declared.literal.Run.the-variants.{Ones, Other}
-use Rattle.fold.specs.Literal.{fits16, fitsImm40, isFixnum, bitRun, litOf, fixnum, constOf, immOf, immLit, asImm16, amountOf, amountLit}
-use Rattle.fold.specs.Fold.{minusOne, shiftBy, shiftedBy, maskFold, shiftFold, immFold, foldBy, foldLit, foldOf, tailOp}
+use Rattle.fold.specs.Literal.{fits16, fitsImm40, isFixnum, litOf, fixnum, constOf, immOf, immLit, asImm16, amountOf, amountLit}
+use Rattle.fold.specs.Fold.{minusOne, shiftBy, shiftedBy, foldOf, tailOp, takesShift}
+use Rattle.fold.proofs.Folding.{Folding, general, mask, shift-mask, shift-left, shift-right, plus, minus as less, times, folding}
+use Rattle.fold.proofs.literal.Runs.{run-exactly}
 use Rattle.fold.specs.Opcodes.{threeOf, mirror, branchOf}
 use Rattle.emit.specs.Steps.{rawNil, rawTrue, rawFalse, rawInt}
 use Rattle.claim.proofs.fragments.Frag.{DstLow, ValueF, BranchF, Frag, dReg, dNext, loadF, intF, leafF, intoF, binaryF, unaryTestF, binaryTestF, tailF, operandF, arithF, compareF, immOn, pairOn, testOn, condF, ternF, juncB, plainF, conditionF, unaryN, binaryN, frag}
 use Rattle.claim.proofs.fragments.Runs.{VSound, BSound, Truth, truth, wrong, test, sameT}
 use Rattle.claim.proofs.fragments.Sound
-use Rattle.claim.proofs.fragments.Laws.{Mask, mask-is, raw-nil, raw-true, raw-false, raw-int, three-is, both-left, both-right, opposite, jump-is, sense-is, mirror-is}
+use Rattle.claim.proofs.fragments.Laws.{mask-is, raw-nil, raw-true, raw-false, raw-int, three-is, both-left, both-right, opposite, jump-is, sense-is, mirror-is}
 
 -- ---- results and tests
 
@@ -267,11 +263,7 @@ shifted-is (ternary c a b) ls = tt
 -- ---- what a fold may be used for
 
 abbrev operandR : Tail → Result → Result → Result
-operandR Tail.Not a first = a
-operandR (Tail.Imm o z) a first = a
-operandR (Tail.Shift o k) a first = a
-operandR (Tail.Mask lo len) a first = a
-operandR (Tail.ShiftMask k lo len) a first = first
+operandR tail a first = cond (takesShift tail) first a
 
 abbrev FoldIs : Fold → Arith → Result → Result → Result → Type 0
 FoldIs (Into tail) o ea e₁ eb = Apply.both (E.arithOf o) ea eb ≡ tailR tail (operandR tail ea e₁)
@@ -281,46 +273,24 @@ FoldIs General o ea e₁ eb = Unit {0}
 with-literal : (o : Arith) (z : ℤ) (ea eb : Result) → eb ≡ is (Val.int z) → Apply.both (E.arithOf o) ea eb ≡ M.both (Forms.threeKind (threeOf o)) ea (M.literal z)
 with-literal o z ea eb h = ap (Apply.both (E.arithOf o) ea) h ∙ sym (three-is o ea (is (Val.int z)))
 
-mask-fold :
-    (s : Amount) (z : ℤ) (r : Run) (ea e₁ eb : Result) → ShiftIs s ea e₁ → eb ≡ is (Val.int z) → bitRun z ≡ r → FoldIs (maskFold s r) bitAnd ea e₁ eb
-mask-fold NoShift z Other ea e₁ eb hs h w = tt
-mask-fold (By k) z Other ea e₁ eb hs h w = tt
-mask-fold NoShift z (Ones lo len) ea e₁ eb hs h w =
-    with-literal bitAnd z ea eb h ∙ ap (λ (y : ℤ). M.both 8 ea (M.literal y)) (sym (mask-is z lo len w .reads))
-mask-fold (By k) z (Ones lo len) ea e₁ eb hs h w =
+-- by the ways in which a fold comes about
+folding-is :
+    {o : Arith} {s : Amount} {l : Lit} {f : Fold} (ea e₁ eb : Result) → ShiftIs s ea e₁ → LitIs l eb → Folding o s l f → FoldIs f o ea e₁ eb
+folding-is ea e₁ eb hs h general = tt
+folding-is ea e₁ eb hs h (mask {z} {lo} {len} e) =
+    with-literal bitAnd z ea eb h ∙ ap (λ (y : ℤ). M.both 8 ea (M.literal y)) (sym (mask-is z lo len (run-exactly z lo len .0 e)))
+folding-is ea e₁ eb hs h (shift-mask {k} {z} {lo} {len} e) =
     with-literal bitAnd z ea eb h
-    ∙ ap (λ (y : ℤ). M.both 8 ea (M.literal y)) (sym (mask-is z lo len w .reads))
+    ∙ ap (λ (y : ℤ). M.both 8 ea (M.literal y)) (sym (mask-is z lo len (run-exactly z lo len .0 e)))
     ∙ ap (λ (x : Result). M.both 8 x (M.mask lo len)) (hs ∙ sym (three-is rshift e₁ (is (Val.int (pos k)))))
-
-shift-fold :
-    (k : Shift) (o : Arith) (s : Amount) (ea e₁ eb : Result) → Forms.shiftKind k ≡ Forms.threeKind (threeOf o) → AmountIs s eb → FoldIs (shiftFold k s) o ea e₁ eb
-shift-fold k o NoShift ea e₁ eb e h = tt
-shift-fold k o (By n) ea e₁ eb e h = with-literal o (pos n) ea eb h ∙ ap (λ (m : ℕ). M.both m ea (M.literal (pos n))) (sym e)
-
-imm-fold :
-    (k : ImmArith) (o : Arith) (i : Imm) (ea e₁ eb : Result) → Forms.arithKind k ≡ Forms.threeKind (threeOf o) → ImmIs i eb → FoldIs (immFold k i) o ea e₁ eb
-imm-fold k o NoImm ea e₁ eb e h = tt
-imm-fold k o (Imm16 z) ea e₁ eb e h = with-literal o (z .n) ea eb h ∙ ap (λ (m : ℕ). M.both m ea (M.literal (z .n))) (sym e)
-
-fold-by : (o : Arith) (s : Amount) (z : ℤ) (ea e₁ eb : Result) → ShiftIs s ea e₁ → eb ≡ is (Val.int z) → FoldIs (foldBy o s z) o ea e₁ eb
-unfolding foldBy
-fold-by bitAnd s z ea e₁ eb hs h = mask-fold s z (bitRun z) ea e₁ eb hs h refl
-fold-by bitOr s z ea e₁ eb hs h = tt
-fold-by bitXor s z ea e₁ eb hs h = tt
-fold-by lshift s z ea e₁ eb hs h = shift-fold Shift.Left lshift (amountOf z) ea e₁ eb refl (amount-of z eb h)
-fold-by rshift s z ea e₁ eb hs h = shift-fold Shift.Right rshift (amountOf z) ea e₁ eb refl (amount-of z eb h)
-fold-by add s z ea e₁ eb hs h = imm-fold Plus add (immOf z) ea e₁ eb refl (imm-of z eb h)
-fold-by sub s z ea e₁ eb hs h = imm-fold Minus sub (immOf z) ea e₁ eb refl (imm-of z eb h)
-fold-by mul s z ea e₁ eb hs h = imm-fold Times mul (immOf z) ea e₁ eb refl (imm-of z eb h)
-fold-by div s z ea e₁ eb hs h = tt
-fold-by mod′ s z ea e₁ eb hs h = tt
-
-fold-lit : (o : Arith) (s : Amount) (l : Lit) (ea e₁ eb : Result) → ShiftIs s ea e₁ → LitIs l eb → FoldIs (foldLit o s l) o ea e₁ eb
-fold-lit o s Not ea e₁ eb hs h = tt
-fold-lit o s (Is z) ea e₁ eb hs h = fold-by o s z ea e₁ eb hs h
+folding-is ea e₁ eb hs h (shift-left {s} {z} {k} e) = with-literal lshift (pos k) ea eb (subst (λ (a : Amount). AmountIs a eb) e (amount-of z eb h))
+folding-is ea e₁ eb hs h (shift-right {s} {z} {k} e) = with-literal rshift (pos k) ea eb (subst (λ (a : Amount). AmountIs a eb) e (amount-of z eb h))
+folding-is ea e₁ eb hs h (plus {s} {z} {n} e) = with-literal add (n .n) ea eb (subst (λ (i : Imm). ImmIs i eb) e (imm-of z eb h))
+folding-is ea e₁ eb hs h (less {s} {z} {n} e) = with-literal sub (n .n) ea eb (subst (λ (i : Imm). ImmIs i eb) e (imm-of z eb h))
+folding-is ea e₁ eb hs h (times {s} {z} {n} e) = with-literal mul (n .n) ea eb (subst (λ (i : Imm). ImmIs i eb) e (imm-of z eb h))
 
 fold-is : (o : Arith) (a b : Tree) (ls : List Datum) → FoldIs (foldOf o a b) o (evalOf ls a) (firstOf ls a) (evalOf ls b)
-fold-is o a b ls = fold-lit o (shiftedBy a) (constOf b) (evalOf ls a) (firstOf ls a) (evalOf ls b) (shifted-is a ls) (const-is b ls)
+fold-is o a b ls = folding-is (evalOf ls a) (firstOf ls a) (evalOf ls b) (shifted-is a ls) (const-is b ls) (folding o (shiftedBy a) (constOf b))
 
 cmp-bool : (c : Cmp) (x y : Datum) → boolR (test (E.cmpOf c x y)) ≡ E.cmpOf c x y
 unfolding E.cmpOf
@@ -399,14 +369,11 @@ module _ (C : List ℕ) (W ls : List Datum) (b : ℕ) where
       Values (arithF f (threeOf o) v w₁ w) (Apply.both (E.arithOf o) ea eb)
   arith-values General o v w₁ w ea e₁ eb h sa s₁ sb = three-values o v w ea eb sa sb
   arith-values (Into tail) o v w₁ w ea e₁ eb h sa s₁ sb =
-      value-as (sym h) (tail-values tail (operandF tail v w₁) (operandR tail ea e₁) (operand tail))
+      value-as (sym h) (tail-values tail (operandF tail v w₁) (operandR tail ea e₁) (operand (takesShift tail)))
     where
-      operand : (tail : Tail) → Values (operandF tail v w₁) (operandR tail ea e₁)
-      operand Tail.Not = sa
-      operand (Tail.Imm o z) = sa
-      operand (Tail.Shift o k) = sa
-      operand (Tail.Mask lo len) = sa
-      operand (Tail.ShiftMask k lo len) = s₁
+      operand : (t : Bool) → Values (cond t w₁ v) (cond t e₁ ea)
+      operand true = s₁
+      operand false = sa
 
   -- a register against a literal: t is the test
   imm-branches :

@@ -1,4 +1,4 @@
--- A path of the machine is its run, so that a sound fragment, alone among the words, runs to the tree's value or stops with its fault. Assumes nothing.
+-- A path of the machine is its run, so that a sound fragment, alone among the words, runs to the tree's value or stops with its fault.
 use mathlib.Core.Path.{_≡_, refl, sym, ap, _∙_, subst, subst₂}
 use mathlib.Core.List.{List, [], _∷_, _++_, append-assoc}
 use Prim.Native.Nat.{ℕ, zero, suc, _+_, _-_, _≤_, _<_}

@@ -1,4 +1,4 @@
--- `codegen_replay::main` ends: the loop counts the records. Assumes nothing.
+-- `codegen_replay::main` ends: the loop counts the records.
 use Prim.Native.Nat.{_-_}
 use borrow.Author.Needs.{needs}
 use Rattle.codegen_replay.proofs.main.Statement.{statement}

@@ -1,4 +1,4 @@
--- `codegen_replay::serve` is safe: what is cut off lies within its slice. Assumes nothing.
+-- `codegen_replay::serve` is safe: what is cut off lies within its slice.
 use lib.Seq.{length-take-le}
 use borrow.Author.Needs.{needs}
 use Rattle.codegen_replay.proofs.serve.Statement.{statement}

@@ -1,4 +1,4 @@
--- Zeros after a place, the kinds of the constants, and what is left behind. Assumes nothing.
+-- Zeros after a place, the kinds of the constants, and what is left behind.
 use mathlib.Core.Path.{_≡_, refl, sym, ap, _∙_}
 use mathlib.Core.List.{List, [], _∷_, _++_, map, append-assoc, append-nil}
 use Prim.Native.Nat.{ℕ, suc, _+_, _-_, _<_, _≤_}
@@ -13,7 +13,8 @@ use Rattle.compile.specs.declared.buffers.Compiled.the-variants.{Done}
 use Rattle.emit.specs.declared.state.St.{St}
 use Rattle.emit.specs.State.{done}
 use Rattle.emit.specs.Read.{bufs, stOf, constAt}
-use Rattle.compile.specs.Buffers.{zeroed, padded, slotKind, Made, Filled, Compiles}
+use Rattle.compile.specs.Buffers.{padded, Compiles}
+use Rattle.compile.specs.Parts.{zeroed, slotKind, Emitted, Filled}
 
 -- ---- zeros from a place on: k places are done
 
@@ -79,7 +80,7 @@ padded-is n old {now} {xs} {m} z e h l =
     let k : length xs ≡ n = ap (λ (q : List ℕ). length q) (sym e) ∙ length-take-le n old h in
     z ∙ ap (λ (q : List ℕ). q ++ replicate {A = ℕ} (length old - n) 0) e ∙ ap (λ (q : ℕ). xs ++ replicate {A = ℕ} (q - n) 0) l ∙ ap (λ (q : ℕ). xs ++ replicate {A = ℕ} (m - q) 0) (sym k)
 
-pub finished : {t c kinds p : List ℕ} {s : St} → Made t c kinds p s → {kinds1 p1 : List ℕ} → Filled t p kinds1 p1 (s .slots) → length kinds1 ≡ length kinds → length p1 ≡ length p →
+pub finished : {t c kinds p : List ℕ} {s : St} → Emitted t c kinds p s → {kinds1 p1 : List ℕ} → Filled t p kinds1 p1 (s .slots) → length kinds1 ≡ length kinds → length p1 ≡ length p →
     {c2 kinds2 p2 : List ℕ} → c2 ≡ zeroed (s .count) c → kinds2 ≡ zeroed (s .slots) kinds1 → p2 ≡ zeroed (s .slots) p1 → (r : ℕ) →
     Compiles (Done (s .count) (s .slots) r (s .frame)) (done (r, stOf (bufs t c p) s)) c2 kinds2 p2 (length c) (length kinds) (length p)
 finished {t} {c} {kinds} {p} {s} m {kinds1} {p1} f kl pl cz kz pz r =

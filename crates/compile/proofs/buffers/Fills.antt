@@ -1,4 +1,4 @@
--- The slots, from the literals' nodes to their constants: k places are done. Assumes nothing.
+-- The slots, from the literals' nodes to their constants: k places are done.
 use mathlib.Core.Path.{_≡_, refl, sym, ap, _∙_}
 use mathlib.Core.Bool.{Bool, true, false, cond}
 use mathlib.Core.List.{List, [], _∷_, _++_, map}
@@ -14,7 +14,7 @@ use mir.ValLaws.{ofZ-toZ}
 use Rattle.table.specs.Table.{nodeCount, kindAt, payloadAt}
 use Rattle.value.specs.Value.{payloadOf}
 use Rattle.value.specs.Value as Val
-use Rattle.compile.specs.Buffers.{slotKind, slotPayload, Named, Filled}
+use Rattle.compile.specs.Parts.{slotKind, slotPayload, Named, Filled}
 
 pub record Filling (t kinds₀ places : List ℕ) (n : ℕ) (kinds payloads : List ℕ) (k : ℕ) : Type 0 where
   pub named : Named t kinds₀ places n

@@ -1,4 +1,4 @@
--- `compile` gives what the definition gives, of every input: the jump list that it brings does not run out. Assumes nothing.
+-- `compile` gives what the definition gives, of every input: the jump list that it brings does not run out.
 use native.Mathlib.Omega.{arith}
 use Rattle.compile.proofs.Entries.{outs, out-roomy, out-all}
 use borrow.Author.Needs.{needs}

@@ -1,4 +1,4 @@
--- `compile_with` gives what the definition gives with the lent jump list, and leaves that list zeroed. Assumes nothing.
+-- `compile_with` gives what the definition gives with the lent jump list, and leaves that list zeroed.
 use Rattle.compile.proofs.Entries.{outs, all-zeroed}
 use borrow.Author.Needs.{needs}
 use Rattle.compile.proofs.compile_with.Statement.{statement}

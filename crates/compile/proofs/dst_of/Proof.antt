@@ -1,4 +1,4 @@
--- `dst_of` is the destination that was asked for. Assumes nothing.
+-- `dst_of` is the destination that was asked for.
 use Rattle.compile.proofs.Roots.{register-fits, dst-reg}
 use native.Mathlib.Omega.{arith}
 use borrow.Author.Needs.{needs}

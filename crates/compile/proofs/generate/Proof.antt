@@ -1,9 +1,9 @@
--- `generate` gives what the definition gives of a checked table. Assumes nothing.
+-- `generate` gives what the definition gives of a checked table.
 use mathlib.Core.Path.{_∙_}
 use lib.Seq.{length-take-le}
 use Rattle.emit.proofs.Laws.{kept, says-by}
 use Rattle.codegen.proofs.Parts.{prefix}
-use Rattle.compile.proofs.Entries.{checked, smaller-right, back-length, made, lengths, generated-done, generated-refused, root-generated}
+use Rattle.compile.proofs.Entries.{checked, smaller-right, back-length, emitted, lengths, generated-done, generated-refused, root-generated}
 use borrow.Author.Needs.{needs}
 use Rattle.compile.proofs.generate.Statement.{statement}
 use Rattle.compile.proofs.generate.Tie as tie
@@ -17,7 +17,7 @@ finish-requires c κs =
     let c2 = c1 .before .before .before .before .before .before .before .before in
     let c3 = c2 .before .before .before .before .before .before in
     let g = c3 .before .before .before .before .before .before .args in
-    made (g .kinds .now) (g .payloads .now) _ (kept (c1 .x .given .1) (c2 .root .ensures)) (c2 .root .kept .1 .1 .0) (c3 .smaller .ensures)
+    emitted (g .kinds .now) (g .payloads .now) _ (kept (c1 .x .given .1) (c2 .root .ensures)) (c2 .root .kept .1 .1 .0) (c3 .smaller .ensures)
 
 returns : tie.Need-returns
 returns c =

@@ -1,4 +1,4 @@
--- `root` generates the whole tree. Assumes nothing.
+-- `root` generates the whole tree.
 use Rattle.compile.proofs.Roots.{roots}
 use borrow.Author.Needs.{needs}
 use Rattle.compile.proofs.root.Statement.{statement}

@@ -1,4 +1,4 @@
--- `temp_base` is where temporaries start. Assumes nothing.
+-- `temp_base` is where temporaries start.
 use Rattle.table.specs.Table.{tempBase}
 use borrow.Author.Needs.{needs}
 use Rattle.compile.proofs.temp_base.Statement.{statement}

@@ -2,11 +2,11 @@
 use mathlib.Core.Path.{_≡_, refl, sym, ap, _∙_}
 use mathlib.Core.Bool.{Bool, true, false, not, cond}
 use mathlib.Core.List.{List, [], _∷_}
-use Prim.Native.Nat.{ℕ, suc, _+_, _-_, _≤_, _<_, _^_}
+use Prim.Native.Nat.{ℕ, zero, suc, _+_, _-_, _≤_, _<_, _^_}
 use native.Mathlib.Omega.{arith}
 use native.Mathlib.Numerals.{add-one}
 use borrow.Author.Tests.{le-ltb, lt-ltb}
-use lib.Dec.{ltb}
+use lib.Dec.{T, ltb, leb, leb→le}
 use lib.IntN.{ℤ, pos, negsuc, _+ℤ_, _-ℤ_}
 use lib.ListN.{length, getD, drop, drop-of-length-le}
 use lib.Seq.{drop-cons}
@@ -33,6 +33,17 @@ small at t a l = go (ltb t (suc at))
     go : (b : Bool) → mag (cond b (negsuc (suc at - suc t)) (pos (t - suc at))) < 4611686018427387904
     go true = omega arith
     go false = omega arith
+
+-- the difference of a target and a place at most one past a position is an i64
+far-apart : (s t : ℕ) → s ≤ 2305843009213693952 → t < 4611686018427387904 → mag (pos t -ℤ pos s) < 4611686018427387904
+far-apart zero t a l = omega arith
+far-apart (suc s) t a l = small s t a l
+
+pub diff-fits : (at k t : ℕ) → T (leb k 1) → at < 2305843009213693952 → t < 4611686018427387904 → SFits w64 (toZ w64 t -ℤ toZ w64 (at + k))
+diff-fits at k t small-k a l =
+    let s : k ≤ 1 = leb→le k 1 small-k in
+    let f = far-apart (at + k) t (omega arith) l in
+    rw (toZ-pos w64 t (omega arith), toZ-pos w64 (at + k) (omega arith)) (record { sfits = omega arith })
 
 -- what the code computes
 diff : (at t : ℕ) → at < 2305843009213693952 → t < 4611686018427387904 → toZ w64 t -ℤ toZ w64 (at + 1) ≡ difference at t
@@ -61,26 +72,21 @@ past-62 at t a l =
 
 -- the code's difference d, and the magnitude m of it
 module _ (at t : ℕ) (a : at < 2305843009213693952) (l : t < 4611686018427387904) where
-  pub d-fits : SFits w64 (toZ w64 t -ℤ toZ w64 (at + 1))
-  d-fits = let k = small at t a l in rw (diff at t a l) (record { sfits = omega arith })
-
-  d-held : toZ w64 (ofZ w64 (toZ w64 t -ℤ toZ w64 (at + 1))) ≡ difference at t
-  d-held = toZ-ofZ d-fits ∙ diff at t a l
+  read-back : toZ w64 (ofZ w64 (toZ w64 t -ℤ toZ w64 (at + 1))) ≡ difference at t
+  read-back = toZ-ofZ (diff-fits at 1 t tt a l) ∙ diff at t a l
 
   module _ {m : ℕ} (e : m ≡ mag (toZ w64 (ofZ w64 (toZ w64 t -ℤ toZ w64 (at + 1))))) where
     mag-is : m ≡ mag (difference at t)
-    mag-is = e ∙ ap mag d-held
+    mag-is = e ∙ ap mag read-back
 
     pub near-by : m < 2147483648 → Reach.By (record { by = toZ w32 (ofZ w32 (toZ w64 (ofZ w64 (toZ w64 t -ℤ toZ w64 (at + 1))))) }) ≡ reachOf at t
     near-by h =
         let k : mag (difference at t) < 2147483648 = omega (arith, mag-is) in
-        let z : toZ w32 (ofZ w32 (toZ w64 (ofZ w64 (toZ w64 t -ℤ toZ w64 (at + 1))))) ≡ difference at t = ap (λ (y : ℤ). toZ w32 (ofZ w32 y)) d-held ∙ back w32 (difference at t) k in
+        let z : toZ w32 (ofZ w32 (toZ w64 (ofZ w64 (toZ w64 t -ℤ toZ w64 (at + 1))))) ≡ difference at t = ap (λ (y : ℤ). toZ w32 (ofZ w32 y)) read-back ∙ back w32 (difference at t) k in
         ap (λ (y : ℤ). Reach.By (record { by = y })) z ∙ in-reach at t k
 
     pub far-by : 2147483648 ≤ m → Reach.Far ≡ reachOf at t
     far-by h = far-off at t (omega (arith, mag-is))
-
-pub ruleset displacements = (past-62, d-fits, near-by, far-by)
 
 -- ---- a word of a list is patched
 

@@ -1,7 +1,7 @@
--- A branch whose displacement is 0 has the word of its other operands: the field above them adds nothing. Assumes nothing.
+-- A branch whose displacement is 0 has the word of its other operands: the field above them adds nothing.
 use mathlib.Core.Path.{_≡_, ap, _∙_}
 use mathlib.Core.Bool.{Bool, true, false}
-use mathlib.Core.List.{List, [], _∷_}
+use mathlib.Core.List.{[], _∷_}
 use Prim.Native.Nat.{ℕ}
 use lib.IntN.{ℤ}
 use mir.Syntax.{w16, w64}
@@ -17,7 +17,8 @@ use Rattle.insns.specs.declared.op.Cmp.{Cmp}
 use Rattle.insns.specs.declared.op.Imm16.{Imm16}
 use Rattle.insns.specs.declared.op.Imm40.{Imm40}
 use Rattle.insns.specs.declared.op.Op.{Op}
-use Rattle.emit.specs.Build.{toPatch, senseOf, literalBits}
+use Rattle.emit.specs.Jump.{toPatch, senseOf}
+use Rattle.emit.specs.Read.{literalBits}
 
 pub load-made : (dst : ℕ) (imm : Imm40) {n : ℕ} {r : Made} → n ≡ rawBits (imm .raw) → r ≡ make 3 (u 16 dst ∷ (1099511627776, n) ∷ []) → r ≡ madeOf (Op.LoadImm40 dst imm)
 load-made dst imm e h = rw e at h

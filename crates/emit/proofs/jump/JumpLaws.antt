@@ -1,4 +1,4 @@
--- What branches, their list and patching have to show, at a state that is read off the code's buffers. Assumes nothing.
+-- What branches, their list and patching have to show, at a state that is read off the code's buffers.
 use mathlib.Core.Path.{_≡_, refl, sym, ap, _∙_}
 use mathlib.Core.Bool.{Bool, true, false, cond}
 use mathlib.Core.List.{List, [], _∷_, _++_}
@@ -32,13 +32,13 @@ use Rattle.emit.proofs.Laws.{go, stop, kept, says-by, passed, came, fit
 
 -- a refusal is the definition's
 fails : {b : Bufs} {x : Ans} {m : Res (ℕ × State)} {B : Type 0} (k : ℕ × State → Res B) {n : ℕ} → x ≡ No n → Says b x m → fail n ≡ bind m k
-fails k e h = rw (← h .same, e)
+fails k e h = rw (← h .is, e)
 
 -- ---- a branch
 
 pub jump-none : (c js : List ℕ) (st : St) (made : Made) → length js ≡ 0 → Jumping c c js st (J.No noRoom) (leapD made (length js))
 unfolding leapD
-jump-none c js st made h t k fit = record { same = rw h; fit = tt }
+jump-none c js st made h t k fit = record { is = rw h; fit = tt }
 
 module _ {c c' : List ℕ} (js : List ℕ) {st : St} (made : Made) {x : Ans} (some : length js ≡ 0 → ⊥) (h : Steps c c' st x (storeD made 0)) where
   pub jump-made : {d : ℕ} {s : St} → x ≡ Got d s → Jumping c c' (set js 0 (st .count)) st (J.Are 1 s) (leapD made (length js))
@@ -48,7 +48,7 @@ module _ {c c' : List ℕ} (js : List ℕ) {st : St} (made : Made) {x : Ans} (so
       let p : 0 < length js = pos-of-ne-zero some in
       let w : length (take (st .count) c) ≡ st .count = length-take-le _ _ (fit .words) in
       record {
-        same = rw (lt-ltb 0 (length js) p, take-suc-set js 0 (st .count) p, w) (go (λ y. done (st .count ∷ [], y .1)) e q);
+        is = rw (lt-ltb 0 (length js) p, take-suc-set js 0 (st .count) p, w) (go (λ y. done (st .count ∷ [], y .1)) e q);
         fit = (kept e q, simp length-set p);
       }
 
@@ -57,17 +57,17 @@ module _ {c c' : List ℕ} (js : List ℕ) {st : St} (made : Made) {x : Ans} (so
   jump-refused e t k fit =
       let q = h t k fit in
       let p : 0 < length js = pos-of-ne-zero some in
-      record { same = rw (lt-ltb 0 (length js) p) (fails (λ y. done (length (take (st .count) c) ∷ [], y .1)) e q); fit = tt }
+      record { is = rw (lt-ltb 0 (length js) p) (fails (λ y. done (length (take (st .count) c) ∷ [], y .1)) e q); fit = tt }
 
 pub leap-stop : (c js : List ℕ) {x : Ans} {n : ℕ} (f : ℕ × State → Res (List ℕ × State)) → x ≡ No n → AfterJumping c c js x (J.No n) f
-leap-stop c js f e t k fit = record { same = rw e; fit = tt }
+leap-stop c js f e t k fit = record { is = rw e; fit = tt }
 
 pub leap-go : {c c' js : List ℕ} {x : Ans} {a : ℕ} {s z : St} {mark : ℕ} {made : Made} {r : Jumps} (op : ℕ → Op) (room : ℕ) → x ≡ Got a s → z ≡ freed s mark → made ≡ madeOf (op a)
     → Jumping c c' js z r (leapD made room) → AfterJumping c c' js x r (leapTo op room mark)
 unfolding leapTo
 leap-go op room got free m h t k fit =
     let q = h t k (fit-free free (rw got at fit)) in
-    record { same = q .same ∙ rw (got, m, free); fit = q .fit }
+    record { is = q .is ∙ rw (got, m, free); fit = q .fit }
 
 pub how-arm : {how arm : How} (a : ℕ) {r : Made} → how ≡ arm → r ≡ madeOf (howOp arm a) → r ≡ madeOf (howOp how a)
 how-arm a e h = rw e h
@@ -96,10 +96,10 @@ module _ {c ws : List ℕ} {st : St} {a : Patched} {r : Ans} (d : ℕ) (ans : r 
       go' : (b : Bool) → Says (bufs t (ws ++ drop (st .count) c) k) (cond b (Got d st) (No (patchedNumber a)))
           (cond b (done (d, withWords (q .words) (stOf (bufs t c k) st))) (fail (patchedNumber a)))
       go' true = record {
-        same = rw (take-at ws (drop (st .count) c) (st .count) l, all, w);
+        is = rw (take-at ws (drop (st .count) c) (st .count) l, all, w);
         fit = record { words = rw all (fit .words); consts = fit .consts; named = fit .named };
       }
-      go' false = record { same = refl; fit = tt }
+      go' false = record { is = refl; fit = tt }
 
   module _ (in-code : st .count ≤ length c) (same : length ws ≡ length (take (st .count) c)) where
     pub patch-is : (p : ℕ) → a ≡ patchOf (take (st .count) c) p (st .count) .answer → ws ≡ patchOf (take (st .count) c) p (st .count) .words
@@ -163,7 +163,7 @@ module _ {c c1 : List ℕ} {st : St} {x : Ans} (js : List ℕ) (d : ℕ) where
       let z = h t k fit in
       let w = g t k (kept e z) in
       let q = f t k (w .fit) in
-      says-by (ap (λ (m : Res (ℕ × State)). bind m (λ z. patchD p d (z .1))) (w .same) ∙ go (λ y. bind (emitD (loadOp rawTrue d) d (y .1)) (λ z. patchD p d (z .1))) e z) q
+      says-by (ap (λ (m : Res (ℕ × State)). bind m (λ z. patchD p d (z .1))) (w .is) ∙ go (λ y. bind (emitD (loadOp rawTrue d) d (y .1)) (λ z. patchD p d (z .1))) e z) q
 
   pub bool-stop : {n : ℕ} → x ≡ No n → Steps c c1 st x (emitD (loadOp rawFalse d) d) → Steps c c1 st x (boolD js d)
   unfolding boolD
@@ -209,7 +209,7 @@ module _ (old now : List ℕ) (n j : ℕ) (room : n + j < length old) (same : le
 
 -- both sides of And or Or
 pub join-stop : (c js js' : List ℕ) (same : Bool) (n : ℕ) {y : Jumps} {f : ℕ} → y ≡ J.No f → Joined c c js js' same n y y
-join-stop c js js' same n e t k fit = record { same = rw e; fit = rw e tt }
+join-stop c js js' same n e t k fit = record { is = rw e; fit = rw e tt }
 
 module _ {c js : List ℕ} {n m : ℕ} {y : Jumps} {s : St} (ready : Joinable c js n y) (e : y ≡ J.Are m s) where
   pub join-room : n + m ≤ length js
@@ -219,7 +219,7 @@ module _ {c js : List ℕ} {n m : ℕ} {y : Jumps} {s : St} (ready : Joinable c 
   unfolding junctionTo
   join-same g t k fit =
       let f = rw e at fit in
-      record { same = rw (e, g, take-add n m js); fit = (f .0, join-room) }
+      record { is = rw (e, g, take-add n m js); fit = (f .0, join-room) }
 
   pub join-ready : s .count ≤ length c
   join-ready = let r = rw e at (ready .right) in r .1
@@ -229,7 +229,7 @@ module _ {c js : List ℕ} {n m : ℕ} {y : Jumps} {s : St} (ready : Joinable c 
     unfolding junctionTo
     join-refused q t k fit =
         let f = rw e at fit in
-        record { same = rw (e, no) (fails (λ w. done (take m (drop n js), w .1)) q (h t k (f .0))); fit = tt }
+        record { is = rw (e, no) (fails (λ w. done (take m (drop n js), w .1)) q (h t k (f .0))); fit = tt }
 
     pub join-moved : {d : ℕ} {s' : St} {js' : List ℕ} → z ≡ Got d s' → take m js' ≡ take m (drop n js) → length js' ≡ length js → Joined c c' js js' same n y (J.Are m s')
     unfolding junctionTo
@@ -237,6 +237,6 @@ module _ {c js : List ℕ} {n m : ℕ} {y : Jumps} {s : St} (ready : Joinable c 
         let f = rw e at fit in
         let w = h t k (f .0) in
         let r = join-room in
-        record { same = rw (e, no, moved) (go (λ w. done (take m (drop n js), w .1)) q w); fit = (kept q w, omega arith) }
+        record { is = rw (e, no, moved) (go (λ w. done (take m (drop n js), w .1)) q w); fit = (kept q w, omega arith) }
 
 pub ruleset joins = (length-take-le, join-stop, join-same, join-ready, join-room, join-refused, join-moved)

@@ -1,18 +1,18 @@
 -- What the kit reads from a pattern is what `read` reads: `real` takes a float of the kit's to whole steps of 2^-1074, and loses nothing (`Exact`).
 use mathlib.Core.Path.{_≡_, refl, sym, ap, _∙_, subst}
 use mathlib.Core.Bool.{Bool, true, false, not, cond}
-use Prim.Native.Nat.{ℕ, zero, suc, _+_, _*_, _/_, _%_, _^_, _<_}
+use Prim.Native.Nat.{ℕ, zero, suc, _+_, _*_, _/_, _%_, _^_, _<_, _≤_}
 use native.Mathlib.Nat.{mul-div-cancel, mul-one}
 use native.Mathlib.Decide.{decLt}
 use native.Mathlib.Omega.{arith}
 use lib.Dec.{T, ltb, eqb}
-use borrow.Author.Tests.{le-ltb, lt-ltb, eq-eqb, ne-eqb}
+use borrow.Author.Tests.{le-ltb, lt-ltb, ltb-true, ltb-false, eq-eqb, ne-eqb, eqb-false}
 use lib.Ieee as Ieee
 use lib.Ieee.{Float, binary64, up, down, odd, ofBits, ofFields, toBits}
 use lib.Ieee.Bits.{toBits-ofBits, nanBits-is, nanBits-above}
 use lib.Ieee.Exact.{HasValue, odd-sign}
 use lib.Ieee.Fits.{down-pos}
-use Rattle.float.specs.Bits.{Real, nan, inf, fin, sign, rest, infinity, isNan, scaled, units, read}
+use Rattle.float.specs.Bits.{Real, nan, inf, fin, sign, rest, infinity, isNan, isFinite, scaled, units, read}
 
 abbrev pub real : Float → Real
 real Ieee.nan = nan
@@ -76,3 +76,23 @@ read-is p =
 
 pub bits-back : (p : ℕ) → p < 2 ^ 64 → isNan p ≡ false → toBits binary64 (ofBits binary64 p) ≡ p
 bits-back p h e = toBits-ofBits binary64 p h (subst (λ (b : Bool). T (not b)) (sym (sym (nanBits-is binary64 p) ∙ nanBits-above binary64 p ∙ e)) tt)
+
+-- ---- finite: a pattern reads as a number of steps exactly where `isFinite` holds
+
+pub finite-reads : (p : ℕ) → isFinite p ≡ true → read p ≡ fin (sign p) (units (rest p))
+unfolding read
+finite-reads p h =
+    let l : rest p < infinity = ltb-true (rest p) infinity h in
+    rw (le-ltb infinity (rest p) (omega arith), ne-eqb (rest p) infinity (λ e. omega arith))
+
+pub others-read : (p : ℕ) (s : Bool) (n : ℕ) → isFinite p ≡ false → read p ≡ fin s n → ⊥
+unfolding read
+others-read p s n h = go (isNan p) (eqb (rest p) infinity) refl refl
+  where
+    go : (a b : Bool) → isNan p ≡ a → eqb (rest p) infinity ≡ b → cond a nan (cond b (inf (sign p)) (fin (sign p) (units (rest p)))) ≡ fin s n → ⊥
+    go true b i j e = let z : _≡_ {A = ℕ} 0 1 = cc in omega arith
+    go false true i j e = let z : _≡_ {A = ℕ} 0 1 = cc in omega arith
+    go false false i j e =
+        let l : infinity ≤ rest p = ltb-false (rest p) infinity h in
+        let m : rest p ≤ infinity = ltb-false infinity (rest p) i in
+        eqb-false (rest p) infinity j (omega arith)

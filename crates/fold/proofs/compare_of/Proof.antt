@@ -1,4 +1,4 @@
--- `fold::compare_of` meets its contract: a literal on the right, on the left, or none. Assumes nothing.
+-- `fold::compare_of` meets its contract: a literal on the right, on the left, or none.
 use borrow.Author.Needs.{needs}
 use Rattle.fold.proofs.TestLaws.{compares}
 use Rattle.fold.proofs.compare_of.Statement.{statement}

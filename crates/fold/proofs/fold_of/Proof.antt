@@ -1,4 +1,4 @@
--- `fold::fold_of` meets its contract: a unary operator, or a binary one and the literal on its right. Assumes nothing.
+-- `fold::fold_of` meets its contract: a unary operator, or a binary one and the literal on its right.
 use borrow.Author.Needs.{needs}
 use Rattle.fold.proofs.FoldLaws.{asks, operators}
 use Rattle.fold.proofs.fold_of.Statement.{statement}

@@ -1,4 +1,4 @@
--- `fold::imm_fold` meets its contract: by the literal. Assumes nothing.
+-- `fold::imm_fold` meets its contract: by the literal.
 use borrow.Author.Needs.{needs}
 use Rattle.fold.proofs.FoldLaws.{intos}
 use Rattle.fold.proofs.imm_fold.Statement.{statement}

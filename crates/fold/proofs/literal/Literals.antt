@@ -1,4 +1,4 @@
--- What the tests of a literal have to show: its size, its bits, the literal at a node. Assumes nothing.
+-- What the tests of a literal have to show: its size, its bits, the literal at a node.
 use mathlib.Core.Path.{_≡_, refl, sym, ap, subst, _∙_}
 use mathlib.Core.Bool.{Bool, true, false, cond, _&&_}
 use mathlib.Core.List.{List}

@@ -1,4 +1,4 @@
--- `fold::literal_fold` meets its contract: by the kind of the operator. Assumes nothing.
+-- `fold::literal_fold` meets its contract: by the kind of the operator.
 use borrow.Author.Needs.{needs}
 use Rattle.fold.proofs.FoldLaws.{folds}
 use Rattle.fold.proofs.literal_fold.Statement.{statement}

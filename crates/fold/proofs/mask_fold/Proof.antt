@@ -1,4 +1,4 @@
--- `fold::mask_fold` meets its contract: by the run and the shift. Assumes nothing.
+-- `fold::mask_fold` meets its contract: by the run and the shift.
 use borrow.Author.Needs.{needs}
 use Rattle.fold.proofs.FoldLaws.{intos}
 use Rattle.fold.proofs.mask_fold.Statement.{statement}

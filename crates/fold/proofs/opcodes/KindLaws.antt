@@ -1,4 +1,4 @@
--- The operators by the numbers of their kinds: an arm of a match on the kind knows the operator. Assumes nothing.
+-- The operators by the numbers of their kinds: an arm of a match on the kind knows the operator.
 use mathlib.Core.Path.{_≡_, refl, sym, ap, _∙_}
 use mathlib.Core.Bool.{Bool, false}
 use mathlib.Core.List.{[], _∷_}
@@ -11,7 +11,8 @@ use Rattle.table.proofs.Arities.{binary-code}
 use Rattle.insns.specs.declared.op.Three.{Three}
 use Rattle.insns.specs.declared.op.Three.the-variants as Three
 use Rattle.insns.specs.declared.op.Cmp.{Cmp as JumpCmp}
-use Rattle.fold.specs.Opcodes.{threeOf, mirror, branchOf, isJunction}
+use Rattle.fold.specs.Opcodes.{threeOf, mirror, branchOf}
+use Rattle.fold.specs.Nodes.{isJunction}
 
 abbrev pub arithAt : ℕ → Arith
 arithAt k = getD (bitAnd ∷ bitOr ∷ bitXor ∷ lshift ∷ rshift ∷ add ∷ sub ∷ mul ∷ div ∷ []) (k - 8) mod′

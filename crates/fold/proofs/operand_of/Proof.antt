@@ -1,4 +1,4 @@
--- `fold::operand_of` meets its contract: the one, the left one, or that of the shift. Assumes nothing.
+-- `fold::operand_of` meets its contract: the one, the left one, or that of the shift.
 use borrow.Author.Needs.{needs}
 use Rattle.fold.proofs.FoldLaws.{asks, operands}
 use Rattle.fold.proofs.operand_of.Statement.{statement}

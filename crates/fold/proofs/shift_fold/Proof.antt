@@ -1,4 +1,4 @@
--- `fold::shift_fold` meets its contract: by the amount. Assumes nothing.
+-- `fold::shift_fold` meets its contract: by the amount.
 use borrow.Author.Needs.{needs}
 use Rattle.fold.proofs.FoldLaws.{intos}
 use Rattle.fold.proofs.shift_fold.Statement.{statement}

@@ -1,4 +1,4 @@
--- `fold::shifted_by` meets its contract: a right shift by a literal, or not. Assumes nothing.
+-- `fold::shifted_by` meets its contract: a right shift by a literal, or not.
 use borrow.Author.Needs.{needs}
 use Rattle.fold.proofs.FoldLaws.{asks, shifts}
 use Rattle.fold.proofs.shifted_by.Statement.{statement}

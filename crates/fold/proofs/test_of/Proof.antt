@@ -1,4 +1,4 @@
--- `fold::test_of` meets its contract: by the kind. Assumes nothing.
+-- `fold::test_of` meets its contract: by the kind.
 use borrow.Author.Needs.{needs}
 use Rattle.fold.proofs.TestLaws.{tests}
 use Rattle.fold.proofs.test_of.Statement.{statement}

@@ -1,6 +1,5 @@
--- `fill_slots` puts each slot's constant in place of its literal's node. Assumes nothing.
+-- `fill_slots` puts each slot's constant in place of its literal's node.
 use Prim.Native.Nat.{_-_}
-use native.Mathlib.Omega.{arith}
 use borrow.Author.Needs.{needs}
 use Rattle.compile.proofs.buffers.Fills.{Filling, filling-start, filling-done, filling-node, filling-more, fills}
 use Rattle.compile.proofs.buffers.fill_slots.Statement.{statement}

@@ -1,4 +1,4 @@
--- `finish` leaves the words, the constants, and zeros after them. Assumes nothing.
+-- `finish` leaves the words, the constants, and zeros after them.
 use Rattle.compile.proofs.buffers.Ends.{finished}
 use borrow.Author.Needs.{needs}
 use Rattle.compile.proofs.buffers.finish.Statement.{statement}

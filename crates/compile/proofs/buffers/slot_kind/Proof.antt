@@ -1,4 +1,4 @@
--- `slot_kind` is the kind of a literal's constant. Assumes nothing.
+-- `slot_kind` is the kind of a literal's constant.
 use Rattle.compile.proofs.buffers.Ends.{slot-int, slot-float}
 use borrow.Author.Needs.{needs}
 use Rattle.compile.proofs.buffers.slot_kind.Statement.{statement}

@@ -1,4 +1,4 @@
--- `zero_from` leaves zeros in the words from a place on: `Zeroing` of words. Assumes nothing.
+-- `zero_from` leaves zeros in the words from a place on: `Zeroing` of words.
 use Prim.Native.Nat.{_-_}
 use lib.ListN.{length}
 use Rattle.compile.proofs.buffers.Ends.{Zeroing, zeroings}

@@ -1,4 +1,4 @@
--- `zero_kinds` leaves zeros in the kinds from a place on: `Zeroing` of bytes. Assumes nothing.
+-- `zero_kinds` leaves zeros in the kinds from a place on: `Zeroing` of bytes.
 use Prim.Native.Nat.{_-_}
 use lib.ListN.{length}
 use Rattle.compile.proofs.buffers.Ends.{Zeroing, zeroings}

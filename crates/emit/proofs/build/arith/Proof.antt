@@ -1,4 +1,4 @@
--- `build::arith` meets its contract: the literal above two registers. Assumes nothing.
+-- `build::arith` meets its contract: the literal above two registers.
 use borrow.Author.Needs.{needs}
 use Rattle.emit.proofs.build.Words.{words}
 use Rattle.emit.proofs.build.arith.Statement.{statement}

@@ -1,4 +1,4 @@
--- `build::jmp` meets its contract: the opcode alone. Assumes nothing.
+-- `build::jmp` meets its contract: the opcode alone.
 use borrow.Author.Needs.{needs}
 use Rattle.emit.proofs.build.Words.{words}
 use Rattle.emit.proofs.build.jmp.Statement.{statement}

@@ -1,4 +1,4 @@
--- `build::jump` meets its contract: the two registers. Assumes nothing.
+-- `build::jump` meets its contract: the two registers.
 use borrow.Author.Needs.{needs}
 use Rattle.emit.proofs.build.Words.{words}
 use Rattle.emit.proofs.build.jump.Statement.{statement}

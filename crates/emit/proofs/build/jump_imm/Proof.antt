@@ -1,4 +1,4 @@
--- `build::jump_imm` meets its contract: the literal above the register. Assumes nothing.
+-- `build::jump_imm` meets its contract: the literal above the register.
 use borrow.Author.Needs.{needs}
 use Rattle.emit.proofs.build.Words.{words}
 use Rattle.emit.proofs.build.jump_imm.Statement.{statement}

@@ -1,4 +1,4 @@
--- `build::literal_bits` meets its contract: a literal is widened, and its bits are taken. Assumes nothing.
+-- `build::literal_bits` meets its contract: a literal is widened, and its bits are taken.
 use borrow.Author.Needs.{needs}
 use Rattle.emit.proofs.build.Words.{words}
 use Rattle.emit.proofs.build.literal_bits.Statement.{statement}

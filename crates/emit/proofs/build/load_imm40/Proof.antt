@@ -1,4 +1,4 @@
--- `build::load_imm40` meets its contract: the raw bits above the register. Assumes nothing.
+-- `build::load_imm40` meets its contract: the raw bits above the register.
 use borrow.Author.Needs.{needs}
 use Rattle.emit.proofs.build.Words.{words}
 use Rattle.emit.proofs.build.load_imm40.Statement.{statement}

@@ -1,4 +1,4 @@
--- `build::test` meets its contract: one register, with either opcode. Assumes nothing.
+-- `build::test` meets its contract: one register, with either opcode.
 use borrow.Author.Needs.{needs}
 use Rattle.emit.proofs.build.Words.{words}
 use Rattle.emit.proofs.build.test.Statement.{statement}

@@ -1,4 +1,4 @@
--- `jump::emit_jmp` meets its contract: the word is the instruction's. Assumes nothing.
+-- `jump::emit_jmp` meets its contract: the word is the instruction's.
 use borrow.Author.Needs.{needs}
 use Rattle.emit.proofs.Laws.{leaves}
 use Rattle.emit.proofs.jump.emit_jmp.Statement.{statement}

@@ -1,4 +1,4 @@
--- `jump::gen_bool` meets its contract: one step after the other. Assumes nothing.
+-- `jump::gen_bool` meets its contract: one step after the other.
 use borrow.Author.Needs.{needs}
 use Rattle.emit.proofs.jump.JumpLaws.{chains, room-kept}
 use Rattle.emit.proofs.jump.gen_bool.Statement.{statement}

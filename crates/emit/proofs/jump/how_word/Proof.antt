@@ -1,4 +1,4 @@
--- `jump::how_word` meets its contract: by what is tested. Assumes nothing.
+-- `jump::how_word` meets its contract: by what is tested.
 use borrow.Author.Needs.{needs}
 use Rattle.emit.proofs.jump.JumpLaws.{leaps}
 use Rattle.emit.proofs.jump.how_word.Statement.{statement}

@@ -1,4 +1,4 @@
--- `jump::join` meets its contract: by the side that the left jumps go to. Assumes nothing.
+-- `jump::join` meets its contract: by the side that the left jumps go to.
 use borrow.Author.Needs.{needs}
 use Rattle.emit.proofs.jump.JumpLaws.{joins, join-room}
 use Rattle.emit.proofs.jump.join.Statement.{statement}

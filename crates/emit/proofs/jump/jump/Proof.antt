@@ -1,4 +1,4 @@
--- `jump::jump` meets its contract: no room, a word, or its refusal. Assumes nothing.
+-- `jump::jump` meets its contract: no room, a word, or its refusal.
 use borrow.Author.Needs.{needs}
 use Rattle.emit.proofs.jump.JumpLaws.{leaps}
 use Rattle.emit.proofs.jump.jump.Statement.{statement}

@@ -1,4 +1,4 @@
--- `jump::jump_one` meets its contract: the value is there, or its refusal is handed on. Assumes nothing.
+-- `jump::jump_one` meets its contract: the value is there, or its refusal is handed on.
 use borrow.Author.Needs.{needs}
 use Rattle.emit.proofs.jump.JumpLaws.{leaps}
 use Rattle.emit.proofs.jump.jump_one.Statement.{statement}

@@ -1,4 +1,4 @@
--- `jump::jump_pair` meets its contract: the values are there, or a refusal is handed on. Assumes nothing.
+-- `jump::jump_pair` meets its contract: the values are there, or a refusal is handed on.
 use borrow.Author.Needs.{needs}
 use Rattle.emit.proofs.jump.JumpLaws.{leaps}
 use Rattle.emit.proofs.jump.jump_pair.Statement.{statement}

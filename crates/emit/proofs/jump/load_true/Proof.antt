@@ -1,4 +1,4 @@
--- `jump::load_true` meets its contract: one step after the other. Assumes nothing.
+-- `jump::load_true` meets its contract: one step after the other.
 use borrow.Author.Needs.{needs}
 use Rattle.emit.proofs.jump.JumpLaws.{chains, counted, room-kept}
 use Rattle.emit.proofs.jump.load_true.Statement.{statement}

@@ -1,4 +1,4 @@
--- `jump::patch_jump` meets its contract: the words before the end are patched, those after it stay. Assumes nothing.
+-- `jump::patch_jump` meets its contract: the words before the end are patched, those after it stay.
 use borrow.Author.Needs.{needs}
 use Rattle.emit.proofs.jump.JumpLaws.{patches}
 use Rattle.emit.proofs.jump.patch_jump.Statement.{statement}

@@ -1,4 +1,4 @@
--- `jump::patch_jumps` meets its contract: as of one branch. Assumes nothing.
+-- `jump::patch_jumps` meets its contract: as of one branch.
 use borrow.Author.Needs.{needs}
 use Rattle.emit.proofs.jump.JumpLaws.{patches}
 use Rattle.emit.proofs.jump.patch_jumps.Statement.{statement}

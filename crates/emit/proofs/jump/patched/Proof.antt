@@ -1,4 +1,4 @@
--- `jump::patched` meets its contract: by the number of what patching answers. Assumes nothing.
+-- `jump::patched` meets its contract: by the number of what patching answers.
 use borrow.Author.Needs.{needs}
 use Rattle.emit.proofs.jump.JumpLaws.{patches}
 use Rattle.emit.proofs.jump.patched.Statement.{statement}

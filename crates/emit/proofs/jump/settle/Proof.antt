@@ -1,4 +1,4 @@
--- `jump::settle` meets its contract: the answer is patched, or handed on. Assumes nothing.
+-- `jump::settle` meets its contract: the answer is patched, or handed on.
 use borrow.Author.Needs.{needs}
 use Rattle.emit.proofs.jump.JumpLaws.{chains}
 use Rattle.emit.proofs.jump.settle.Statement.{statement}

@@ -1,4 +1,4 @@
--- `jump::slide` meets its contract: the jumps that were moved stand in front, and those to come are as they were. Assumes nothing.
+-- `jump::slide` meets its contract: the jumps that were moved stand in front, and those to come are as they were.
 use mathlib.Core.Path.{_≡_, refl}
 use Prim.Native.Nat.{_≤_, _+_, _-_}
 use native.Mathlib.Omega.{arith}

@@ -1,4 +1,4 @@
--- `jump::turn` meets its contract: one step after the other. Assumes nothing.
+-- `jump::turn` meets its contract: one step after the other.
 use borrow.Author.Needs.{needs}
 use Rattle.emit.proofs.jump.JumpLaws.{chains, room-kept}
 use Rattle.emit.proofs.jump.turn.Statement.{statement}

@@ -1,4 +1,4 @@
--- `leaf::gen_const` meets its contract: the register, then the slot and the word. Assumes nothing.
+-- `leaf::gen_const` meets its contract: the register, then the slot and the word.
 use borrow.Author.Needs.{needs}
 use Rattle.emit.proofs.LeafLaws.{consts}
 use Rattle.emit.proofs.leaf.gen_const.Statement.{statement}

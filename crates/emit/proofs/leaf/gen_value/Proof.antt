@@ -1,4 +1,4 @@
--- `leaf::gen_value` meets its contract: by the kind of the leaf. Assumes nothing.
+-- `leaf::gen_value` meets its contract: by the kind of the leaf.
 use borrow.Author.Needs.{needs}
 use Rattle.emit.proofs.LeafLaws.{leafs, leaf-of}
 use Rattle.emit.proofs.leaf.gen_value.Statement.{statement}

@@ -1,4 +1,4 @@
--- `leaf::push_const` meets its contract: no slot, a slot past 32 bits, or a slot and its word. Assumes nothing.
+-- `leaf::push_const` meets its contract: no slot, a slot past 32 bits, or a slot and its word.
 use borrow.Author.Needs.{needs}
 use Rattle.emit.proofs.LeafLaws.{consts}
 use Rattle.emit.proofs.leaf.push_const.Statement.{statement}

@@ -1,4 +1,4 @@
--- `word::emit_load` meets its contract: the word is the instruction's. Assumes nothing.
+-- `word::emit_load` meets its contract: the word is the instruction's.
 use borrow.Author.Needs.{needs}
 use Rattle.emit.proofs.Laws.{leaves}
 use Rattle.emit.proofs.word.emit_load.Statement.{statement}

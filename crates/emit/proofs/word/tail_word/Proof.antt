@@ -1,4 +1,4 @@
--- `word::tail_word` meets its contract: by the instruction. Assumes nothing.
+-- `word::tail_word` meets its contract: by the instruction.
 use borrow.Author.Needs.{needs}
 use Rattle.emit.proofs.Laws.{leaves}
 use Rattle.emit.proofs.word.tail_word.Statement.{statement}

@@ -1,4 +1,4 @@
--- `literal::amount_of` meets its contract: below 0, past 63, or an amount. Assumes nothing.
+-- `literal::amount_of` meets its contract: below 0, past 63, or an amount.
 use borrow.Author.Needs.{needs}
 use Rattle.fold.proofs.literal.Literals.{sizes, amount-cast}
 use Rattle.fold.proofs.literal.amount_of.Statement.{statement}

@@ -1,4 +1,4 @@
--- `literal::as_imm16` meets its contract: by the literal. Assumes nothing.
+-- `literal::as_imm16` meets its contract: by the literal.
 use borrow.Author.Needs.{needs}
 use Rattle.fold.proofs.literal.Literals.{literals}
 use Rattle.fold.proofs.literal.as_imm16.Statement.{statement}

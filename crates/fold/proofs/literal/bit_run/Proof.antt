@@ -1,4 +1,4 @@
--- `literal::bit_run` meets its contract: by what is found, from the lowest bit up. Assumes nothing.
+-- `literal::bit_run` meets its contract: by what is found, from the lowest bit up.
 use borrow.Author.Needs.{needs}
 use Rattle.fold.proofs.literal.Literals.{runs, run-cast, bits-small}
 use Rattle.fold.proofs.literal.bit_run.Statement.{statement}

@@ -1,4 +1,4 @@
--- `literal::bits_of` meets its contract: what is counted and what is left give the whole. Assumes nothing.
+-- `literal::bits_of` meets its contract: what is counted and what is left give the whole.
 use mathlib.Core.Path.{_≡_}
 use Prim.Native.Nat.{_≤_, _+_, _-_}
 use Rattle.fold.specs.Literal.{bits}

@@ -1,4 +1,4 @@
--- `literal::const_value` meets its contract: by the size of the literal. Assumes nothing.
+-- `literal::const_value` meets its contract: by the size of the literal.
 use borrow.Author.Needs.{needs}
 use Rattle.fold.proofs.literal.Literals.{literals}
 use Rattle.fold.proofs.literal.const_value.Statement.{statement}

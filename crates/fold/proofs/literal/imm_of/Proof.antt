@@ -1,4 +1,4 @@
--- `literal::imm_of` meets its contract: within 16 bits or not. Assumes nothing.
+-- `literal::imm_of` meets its contract: within 16 bits or not.
 use borrow.Author.Needs.{needs}
 use Rattle.fold.proofs.literal.Literals.{sizes, imm-cast}
 use Rattle.fold.proofs.literal.imm_of.Statement.{statement}

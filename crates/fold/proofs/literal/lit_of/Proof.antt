@@ -1,4 +1,4 @@
--- `literal::lit_of` meets its contract: by the kind. Assumes nothing.
+-- `literal::lit_of` meets its contract: by the kind.
 use borrow.Author.Needs.{needs}
 use Rattle.fold.proofs.literal.Literals.{literals}
 use Rattle.fold.proofs.literal.lit_of.Statement.{statement}

@@ -1,4 +1,4 @@
--- `literal::within` meets its contract: by the number that is handed on. Assumes nothing.
+-- `literal::within` meets its contract: by the number that is handed on.
 use borrow.Author.Needs.{needs}
 use Rattle.fold.proofs.literal.Literals.{sizes}
 use Rattle.fold.proofs.literal.within.Statement.{statement}

@@ -1,4 +1,4 @@
--- `opcodes::cmp_branch` meets its contract: by the kind of the comparison and the sense. Assumes nothing.
+-- `opcodes::cmp_branch` meets its contract: by the kind of the comparison and the sense.
 use Rattle.fold.proofs.opcodes.KindLaws.{branches}
 use Rattle.fold.proofs.opcodes.cmp_branch.Statement.{statement}
 use Rattle.fold.proofs.opcodes.cmp_branch.Tie as tie

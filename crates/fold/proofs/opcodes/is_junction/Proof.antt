@@ -1,4 +1,4 @@
--- `opcodes::is_junction` meets its contract: by the two tests. Assumes nothing.
+-- `opcodes::is_junction` meets its contract: by the two tests.
 use Rattle.fold.proofs.opcodes.KindLaws.{junctions}
 use Rattle.fold.proofs.opcodes.is_junction.Statement.{statement}
 use Rattle.fold.proofs.opcodes.is_junction.Tie as tie

@@ -1,4 +1,4 @@
--- `opcodes::mirror_cmp` meets its contract: by the kind of the comparison. Assumes nothing.
+-- `opcodes::mirror_cmp` meets its contract: by the kind of the comparison.
 use Rattle.fold.proofs.opcodes.KindLaws.{mirror-arm, mirror-rest}
 use Rattle.fold.proofs.opcodes.mirror_cmp.Statement.{statement}
 use Rattle.fold.proofs.opcodes.mirror_cmp.Tie as tie

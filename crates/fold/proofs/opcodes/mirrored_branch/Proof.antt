@@ -1,4 +1,4 @@
--- `opcodes::mirrored_branch` meets its contract: one table after the other. Assumes nothing.
+-- `opcodes::mirrored_branch` meets its contract: one table after the other.
 use Rattle.fold.specs.Opcodes.{mirror}
 use borrow.Author.Needs.{needs}
 use Rattle.fold.proofs.opcodes.mirrored_branch.Statement.{statement}

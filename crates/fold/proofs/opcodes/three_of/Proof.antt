@@ -1,4 +1,4 @@
--- `opcodes::three_of` meets its contract: by the kind of the operator. Assumes nothing.
+-- `opcodes::three_of` meets its contract: by the kind of the operator.
 use Rattle.fold.proofs.opcodes.KindLaws.{three-arm, three-last}
 use Rattle.fold.proofs.opcodes.three_of.Statement.{statement}
 use Rattle.fold.proofs.opcodes.three_of.Tie as tie

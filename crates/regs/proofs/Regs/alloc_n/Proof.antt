@@ -1,6 +1,6 @@
 -- `regs::Regs::alloc_n` meets its contract: a walk of its MIR, by hand. The borrow is opened, the counter is copied out and handed to `with_n`, the counter that
 -- comes back is stored in its place, and the borrow is closed there. All that the proof knows of `with_n` is that it meets its contract.
--- Assumes nothing.
+--
 use mathlib.Core.Path.{_≡_, refl, _∙_, ap}
 use Prim.Native.Nat.{ℕ, _<_, _^_}
 use mathlib.Core.List.{[], _∷_, List}

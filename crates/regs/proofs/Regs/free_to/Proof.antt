@@ -1,6 +1,6 @@
 -- `regs::Regs::free_to` meets its contract: a walk of its MIR, by hand. The borrow is opened, the counter is copied out and handed to `back_to`, what that returns
 -- is stored in its place, and the borrow is closed there. All that the proof knows of `back_to` is that it meets its contract.
--- Assumes nothing.
+--
 use mathlib.Core.Path.{_≡_, refl}
 use Prim.Native.Nat.{ℕ, _<_, _^_}
 use mathlib.Core.List.{[], _∷_, List}

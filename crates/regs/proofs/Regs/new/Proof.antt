@@ -1,4 +1,4 @@
--- `regs::Regs::new` meets its contract: the greater of two is where temporaries start. Assumes nothing.
+-- `regs::Regs::new` meets its contract: the greater of two is where temporaries start.
 use borrow.Author.Needs.{needs}
 use Rattle.regs.proofs.Laws.{laws}
 use Rattle.regs.proofs.Regs.new.Statement.{statement}

@@ -1,4 +1,4 @@
--- `gen_ternary`: The rule meets its contract. Assumes nothing.
+-- `gen_ternary`: The rule meets its contract.
 use Prim.Native.Nat.{ℕ}
 use Rattle.codegen.proofs.Parts.{listed}
 use Rattle.codegen.proofs.Values.{ternary-stop, ternary-refused, ternary-value}
@@ -8,8 +8,8 @@ use Rattle.codegen.proofs.rules.gen_jumps.Reads as gen-jumps
 use Rattle.codegen.proofs.rules.gen_ternary.Reads as gen-ternary
 use Rattle.emit.proofs.state.dest.Reads as dest-reads
 use Rattle.table.proofs.child_3.Reads as child-3-reads
-use Rattle.codegen.proofs.rules.+gen_arms+gen_bin_op+gen_branch+gen_code_inner+gen_cond_value+gen_into+gen_jumps+gen_junction+gen_not+gen_operand+gen_pair+gen_ternary+gen_test+gen_two.Lts-gen_ternary as lts
-use Rattle.codegen.proofs.rules.+gen_arms+gen_bin_op+gen_branch+gen_code_inner+gen_cond_value+gen_into+gen_jumps+gen_junction+gen_not+gen_operand+gen_pair+gen_ternary+gen_test+gen_two.Proof.Measures.{gen-arms-below, gen-jumps-below, gen-ternary-at}
+use Rattle.codegen.proofs.rules.+gen_arms+gen_branch+gen_code_inner+gen_cond_value+gen_into+gen_jumps+gen_junction+gen_not+gen_operand+gen_operator+gen_pair+gen_ternary+gen_test+gen_two.Lts-gen_ternary as lts
+use Rattle.codegen.proofs.rules.+gen_arms+gen_branch+gen_code_inner+gen_cond_value+gen_into+gen_jumps+gen_junction+gen_not+gen_operand+gen_operator+gen_pair+gen_ternary+gen_test+gen_two.Proof.Measures.{gen-arms-below, gen-jumps-below, gen-ternary-at}
 
 module _ (t : ℕ) where
   abbrev cl : lts.Claims

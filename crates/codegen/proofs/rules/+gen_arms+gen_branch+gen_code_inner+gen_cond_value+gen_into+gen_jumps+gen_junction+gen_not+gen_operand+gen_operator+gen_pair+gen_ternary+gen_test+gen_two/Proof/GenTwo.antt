@@ -1,4 +1,4 @@
--- `gen_two`: The rule meets its contract. Assumes nothing.
+-- `gen_two`: The rule meets its contract.
 use Prim.Native.Nat.{ℕ}
 use Rattle.codegen.proofs.Values.{two-stop, two-value}
 use Rattle.codegen.proofs.Walk.{rules, inside, child-operand, ready-after}
@@ -9,8 +9,8 @@ use Rattle.emit.proofs.word.put_three.Reads as put-three-reads
 use Rattle.table.proofs.child_1.Reads as child-1-reads
 use Rattle.table.proofs.child_2.Reads as child-2-reads
 use Rattle.table.proofs.kind_at.Reads as kind-at-reads
-use Rattle.codegen.proofs.rules.+gen_arms+gen_bin_op+gen_branch+gen_code_inner+gen_cond_value+gen_into+gen_jumps+gen_junction+gen_not+gen_operand+gen_pair+gen_ternary+gen_test+gen_two.Lts-gen_two as lts
-use Rattle.codegen.proofs.rules.+gen_arms+gen_bin_op+gen_branch+gen_code_inner+gen_cond_value+gen_into+gen_jumps+gen_junction+gen_not+gen_operand+gen_pair+gen_ternary+gen_test+gen_two.Proof.Measures.{gen-operand-below, gen-two-at}
+use Rattle.codegen.proofs.rules.+gen_arms+gen_branch+gen_code_inner+gen_cond_value+gen_into+gen_jumps+gen_junction+gen_not+gen_operand+gen_operator+gen_pair+gen_ternary+gen_test+gen_two.Lts-gen_two as lts
+use Rattle.codegen.proofs.rules.+gen_arms+gen_branch+gen_code_inner+gen_cond_value+gen_into+gen_jumps+gen_junction+gen_not+gen_operand+gen_operator+gen_pair+gen_ternary+gen_test+gen_two.Proof.Measures.{gen-operand-below, gen-two-at}
 
 module _ (t : ℕ) where
   abbrev cl : lts.Claims

@@ -1,4 +1,4 @@
--- `gen_test`: The rule meets its contract. Assumes nothing.
+-- `gen_test`: The rule meets its contract.
 use Prim.Native.Nat.{ℕ}
 use Rattle.codegen.proofs.Branches.{one-branch}
 use Rattle.codegen.proofs.Walk.{rules, picked-both, picked-one, pair-kind, test-over-pair, tested-operand, ready-tested}
@@ -7,8 +7,8 @@ use Rattle.codegen.proofs.rules.gen_pair.Reads as gen-pair
 use Rattle.codegen.proofs.rules.gen_test.Reads as gen-test
 use Rattle.fold.proofs.test_of.Reads as test-of-reads
 use Rattle.emit.proofs.jump.jump_one.Reads as jump-one-reads
-use Rattle.codegen.proofs.rules.+gen_arms+gen_bin_op+gen_branch+gen_code_inner+gen_cond_value+gen_into+gen_jumps+gen_junction+gen_not+gen_operand+gen_pair+gen_ternary+gen_test+gen_two.Lts-gen_test as lts
-use Rattle.codegen.proofs.rules.+gen_arms+gen_bin_op+gen_branch+gen_code_inner+gen_cond_value+gen_into+gen_jumps+gen_junction+gen_not+gen_operand+gen_pair+gen_ternary+gen_test+gen_two.Proof.Measures.{gen-operand-below, gen-pair-below, gen-test-at}
+use Rattle.codegen.proofs.rules.+gen_arms+gen_branch+gen_code_inner+gen_cond_value+gen_into+gen_jumps+gen_junction+gen_not+gen_operand+gen_operator+gen_pair+gen_ternary+gen_test+gen_two.Lts-gen_test as lts
+use Rattle.codegen.proofs.rules.+gen_arms+gen_branch+gen_code_inner+gen_cond_value+gen_into+gen_jumps+gen_junction+gen_not+gen_operand+gen_operator+gen_pair+gen_ternary+gen_test+gen_two.Proof.Measures.{gen-operand-below, gen-pair-below, gen-test-at}
 
 module _ (t : ℕ) where
   abbrev cl : lts.Claims

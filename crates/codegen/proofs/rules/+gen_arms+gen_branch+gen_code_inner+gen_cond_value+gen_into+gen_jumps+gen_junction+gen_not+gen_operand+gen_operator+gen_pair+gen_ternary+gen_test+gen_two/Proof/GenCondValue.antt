@@ -1,4 +1,4 @@
--- `gen_cond_value`: The rule meets its contract. Assumes nothing.
+-- `gen_cond_value`: The rule meets its contract.
 use Prim.Native.Nat.{ℕ}
 use Rattle.codegen.proofs.Parts.{listed, prefix, kept-jumps}
 use Rattle.codegen.proofs.Values.{cond-stop, cond-refused, cond-value}
@@ -7,8 +7,8 @@ use Rattle.codegen.proofs.rules.gen_jumps.Reads as gen-jumps
 use Rattle.codegen.proofs.rules.gen_cond_value.Reads as gen-cond-value
 use Rattle.emit.proofs.jump.gen_bool.Reads as gen-bool-reads
 use Rattle.emit.proofs.state.dest.Reads as dest-reads
-use Rattle.codegen.proofs.rules.+gen_arms+gen_bin_op+gen_branch+gen_code_inner+gen_cond_value+gen_into+gen_jumps+gen_junction+gen_not+gen_operand+gen_pair+gen_ternary+gen_test+gen_two.Lts-gen_cond_value as lts
-use Rattle.codegen.proofs.rules.+gen_arms+gen_bin_op+gen_branch+gen_code_inner+gen_cond_value+gen_into+gen_jumps+gen_junction+gen_not+gen_operand+gen_pair+gen_ternary+gen_test+gen_two.Proof.Measures.{gen-jumps-below, gen-cond-value-at}
+use Rattle.codegen.proofs.rules.+gen_arms+gen_branch+gen_code_inner+gen_cond_value+gen_into+gen_jumps+gen_junction+gen_not+gen_operand+gen_operator+gen_pair+gen_ternary+gen_test+gen_two.Lts-gen_cond_value as lts
+use Rattle.codegen.proofs.rules.+gen_arms+gen_branch+gen_code_inner+gen_cond_value+gen_into+gen_jumps+gen_junction+gen_not+gen_operand+gen_operator+gen_pair+gen_ternary+gen_test+gen_two.Proof.Measures.{gen-jumps-below, gen-cond-value-at}
 
 module _ (t : ℕ) where
   abbrev cl : lts.Claims

@@ -1,11 +1,11 @@
--- The number that falls at each call of the cycle: nine times the node's depth, and a rank made of its kind and the rule. Assumes nothing.
+-- The number that falls at each call of the cycle: nine times the node's depth, and a rank made of its kind and the rule.
 use Prim.Native.Nat.{ℕ, _<_}
 use borrow.Fn.Kinds.{In}
 use borrow.Fn.PlainCycle.{Measures, is, falls, and}
 use Rattle.codegen.proofs.rules.gen_arms.Reads as gen-arms
 use Rattle.codegen.proofs.rules.gen_arms.Kinds as gen-arms-kinds
-use Rattle.codegen.proofs.rules.gen_bin_op.Reads as gen-bin-op
-use Rattle.codegen.proofs.rules.gen_bin_op.Kinds as gen-bin-op-kinds
+use Rattle.codegen.proofs.rules.gen_operator.Reads as gen-operator
+use Rattle.codegen.proofs.rules.gen_operator.Kinds as gen-operator-kinds
 use Rattle.codegen.proofs.rules.gen_branch.Reads as gen-branch
 use Rattle.codegen.proofs.rules.gen_branch.Kinds as gen-branch-kinds
 use Rattle.codegen.proofs.rules.gen_code_inner.Reads as gen-code-inner
@@ -35,8 +35,8 @@ use Rattle.codegen.proofs.Walk.{level, valueRank, operandRank, testRank
 abbrev pub μ-gen-arms : Measures 4 gen-arms-kinds.ps ℕ
 μ-gen-arms κs a = level (a .0 .now) (a .1 .1 .1 .1 .0) 1
 
-abbrev pub μ-gen-bin-op : Measures 4 gen-bin-op-kinds.ps ℕ
-μ-gen-bin-op κs a = level (a .0 .now) (a .1 .1 .1 .1 .0) 2
+abbrev pub μ-gen-operator : Measures 4 gen-operator-kinds.ps ℕ
+μ-gen-operator κs a = level (a .0 .now) (a .1 .1 .1 .1 .0) 2
 
 abbrev pub μ-gen-branch : Measures 4 gen-branch-kinds.ps ℕ
 μ-gen-branch κs a = level (a .0 .now) (a .1 .1 .1 .1 .0) (branchRank (a .0 .now) (a .1 .1 .1 .1 .0))
@@ -80,11 +80,11 @@ gen-arms-at t = and 4 gen-arms-kinds.ps (is 4 gen-arms-kinds.ps μ-gen-arms t) g
 abbrev pub gen-arms-below : ℕ → In 4 gen-arms-kinds.ps
 gen-arms-below t = and 4 gen-arms-kinds.ps (falls 4 gen-arms-kinds.ps _<_ μ-gen-arms t) gen-arms.Pre
 
-abbrev pub gen-bin-op-at : ℕ → In 4 gen-bin-op-kinds.ps
-gen-bin-op-at t = and 4 gen-bin-op-kinds.ps (is 4 gen-bin-op-kinds.ps μ-gen-bin-op t) gen-bin-op.Pre
+abbrev pub gen-operator-at : ℕ → In 4 gen-operator-kinds.ps
+gen-operator-at t = and 4 gen-operator-kinds.ps (is 4 gen-operator-kinds.ps μ-gen-operator t) gen-operator.Pre
 
-abbrev pub gen-bin-op-below : ℕ → In 4 gen-bin-op-kinds.ps
-gen-bin-op-below t = and 4 gen-bin-op-kinds.ps (falls 4 gen-bin-op-kinds.ps _<_ μ-gen-bin-op t) gen-bin-op.Pre
+abbrev pub gen-operator-below : ℕ → In 4 gen-operator-kinds.ps
+gen-operator-below t = and 4 gen-operator-kinds.ps (falls 4 gen-operator-kinds.ps _<_ μ-gen-operator t) gen-operator.Pre
 
 abbrev pub gen-branch-at : ℕ → In 4 gen-branch-kinds.ps
 gen-branch-at t = and 4 gen-branch-kinds.ps (is 4 gen-branch-kinds.ps μ-gen-branch t) gen-branch.Pre

@@ -1,19 +1,19 @@
--- `gen_code_inner`: The rule meets its contract. Assumes nothing.
+-- `gen_code_inner`: The rule meets its contract.
 use Prim.Native.Nat.{ℕ}
 use Rattle.codegen.proofs.Values.{leaf-value}
 use Rattle.codegen.proofs.Walk.{rules, leaf-ready, over, under, value-over-op, value-over-cond}
-use Rattle.codegen.proofs.rules.gen_bin_op.Reads as gen-bin-op
+use Rattle.codegen.proofs.rules.gen_operator.Reads as gen-operator
 use Rattle.codegen.proofs.rules.gen_code_inner.Reads as gen-code-inner
 use Rattle.codegen.proofs.rules.gen_cond_value.Reads as gen-cond-value
 use Rattle.codegen.proofs.rules.gen_ternary.Reads as gen-ternary
 use Rattle.emit.proofs.leaf.gen_value.Reads as gen-value-reads
 use Rattle.table.proofs.kind_at.Reads as kind-at-reads
-use Rattle.codegen.proofs.rules.+gen_arms+gen_bin_op+gen_branch+gen_code_inner+gen_cond_value+gen_into+gen_jumps+gen_junction+gen_not+gen_operand+gen_pair+gen_ternary+gen_test+gen_two.Lts-gen_code_inner as lts
-use Rattle.codegen.proofs.rules.+gen_arms+gen_bin_op+gen_branch+gen_code_inner+gen_cond_value+gen_into+gen_jumps+gen_junction+gen_not+gen_operand+gen_pair+gen_ternary+gen_test+gen_two.Proof.Measures.{gen-bin-op-below, gen-code-inner-at, gen-cond-value-below, gen-ternary-below}
+use Rattle.codegen.proofs.rules.+gen_arms+gen_branch+gen_code_inner+gen_cond_value+gen_into+gen_jumps+gen_junction+gen_not+gen_operand+gen_operator+gen_pair+gen_ternary+gen_test+gen_two.Lts-gen_code_inner as lts
+use Rattle.codegen.proofs.rules.+gen_arms+gen_branch+gen_code_inner+gen_cond_value+gen_into+gen_jumps+gen_junction+gen_not+gen_operand+gen_operator+gen_pair+gen_ternary+gen_test+gen_two.Proof.Measures.{gen-operator-below, gen-code-inner-at, gen-cond-value-below, gen-ternary-below}
 
 module _ (t : ℕ) where
   abbrev cl : lts.Claims
-  cl = (kind-at-reads.Asked, kind-at-reads.Learnt, gen-value-reads.Asked, gen-value-reads.Learnt, gen-bin-op-below t, gen-bin-op.Post, gen-cond-value-below t, gen-cond-value.Post, gen-ternary-below t, gen-ternary.Post)
+  cl = (kind-at-reads.Asked, kind-at-reads.Learnt, gen-value-reads.Asked, gen-value-reads.Learnt, gen-operator-below t, gen-operator.Post, gen-cond-value-below t, gen-cond-value.Post, gen-ternary-below t, gen-ternary.Post)
 
   gen-value-requires : lts.Need-gen-value-requires cl (gen-code-inner-at t) gen-code-inner.Post
   gen-value-requires c κs =
@@ -30,8 +30,8 @@ module _ (t : ℕ) where
       let c4 = c3 .before .before .before .before .before in
       leaf-value (c4 .pre .1) _ _ (under (c3 .kind-at .ensures) (c2 .if1 .taken)) (c1 .gen-value .ensures)
 
-  gen-bin-op-requires : lts.Need-gen-bin-op-requires cl (gen-code-inner-at t) gen-code-inner.Post
-  gen-bin-op-requires c κs =
+  gen-operator-requires : lts.Need-gen-operator-requires cl (gen-code-inner-at t) gen-code-inner.Post
+  gen-operator-requires c κs =
       let c1 = c .before .before .before in
       let c2 = c1 .before in
       let c3 = c2 .before in
@@ -61,7 +61,7 @@ module _ (t : ℕ) where
       (λ c. search rules)
       (λ c. search rules)
       returns
-      gen-bin-op-requires
+      gen-operator-requires
       (λ c. search rules)
       (λ c. search rules)
       (λ c. search rules)

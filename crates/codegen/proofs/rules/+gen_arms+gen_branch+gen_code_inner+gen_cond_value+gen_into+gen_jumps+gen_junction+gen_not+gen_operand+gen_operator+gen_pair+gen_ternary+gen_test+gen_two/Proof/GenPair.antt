@@ -1,4 +1,4 @@
--- `gen_pair`: The rule meets its contract. Assumes nothing.
+-- `gen_pair`: The rule meets its contract.
 use Prim.Native.Nat.{ℕ}
 use mathlib.Core.Path.{_∙_}
 use Rattle.codegen.proofs.Branches.{pair-stop, pair-branch}
@@ -10,8 +10,8 @@ use Rattle.emit.proofs.jump.jump_pair.Reads as jump-pair-reads
 use Rattle.table.proofs.child_1.Reads as child-1-reads
 use Rattle.table.proofs.child_2.Reads as child-2-reads
 use Rattle.table.proofs.kind_at.Reads as kind-at-reads
-use Rattle.codegen.proofs.rules.+gen_arms+gen_bin_op+gen_branch+gen_code_inner+gen_cond_value+gen_into+gen_jumps+gen_junction+gen_not+gen_operand+gen_pair+gen_ternary+gen_test+gen_two.Lts-gen_pair as lts
-use Rattle.codegen.proofs.rules.+gen_arms+gen_bin_op+gen_branch+gen_code_inner+gen_cond_value+gen_into+gen_jumps+gen_junction+gen_not+gen_operand+gen_pair+gen_ternary+gen_test+gen_two.Proof.Measures.{gen-operand-below, gen-pair-at}
+use Rattle.codegen.proofs.rules.+gen_arms+gen_branch+gen_code_inner+gen_cond_value+gen_into+gen_jumps+gen_junction+gen_not+gen_operand+gen_operator+gen_pair+gen_ternary+gen_test+gen_two.Lts-gen_pair as lts
+use Rattle.codegen.proofs.rules.+gen_arms+gen_branch+gen_code_inner+gen_cond_value+gen_into+gen_jumps+gen_junction+gen_not+gen_operand+gen_operator+gen_pair+gen_ternary+gen_test+gen_two.Proof.Measures.{gen-operand-below, gen-pair-at}
 
 module _ (t : ℕ) where
   abbrev cl : lts.Claims

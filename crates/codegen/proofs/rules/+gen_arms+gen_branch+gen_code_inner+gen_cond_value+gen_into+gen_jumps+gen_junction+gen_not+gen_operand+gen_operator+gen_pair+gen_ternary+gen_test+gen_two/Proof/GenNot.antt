@@ -1,4 +1,4 @@
--- `gen_not`: The rule meets its contract. Assumes nothing.
+-- `gen_not`: The rule meets its contract.
 use Prim.Native.Nat.{ℕ}
 use native.Mathlib.Omega.{arith}
 use Rattle.codegen.proofs.Branches.{not-branch}
@@ -6,8 +6,8 @@ use Rattle.codegen.proofs.Walk.{rules, inner}
 use Rattle.codegen.proofs.rules.gen_branch.Reads as gen-branch
 use Rattle.codegen.proofs.rules.gen_not.Reads as gen-not
 use Rattle.table.proofs.child_1.Reads as child-1-reads
-use Rattle.codegen.proofs.rules.+gen_arms+gen_bin_op+gen_branch+gen_code_inner+gen_cond_value+gen_into+gen_jumps+gen_junction+gen_not+gen_operand+gen_pair+gen_ternary+gen_test+gen_two.Lts-gen_not as lts
-use Rattle.codegen.proofs.rules.+gen_arms+gen_bin_op+gen_branch+gen_code_inner+gen_cond_value+gen_into+gen_jumps+gen_junction+gen_not+gen_operand+gen_pair+gen_ternary+gen_test+gen_two.Proof.Measures.{gen-branch-below, gen-not-at}
+use Rattle.codegen.proofs.rules.+gen_arms+gen_branch+gen_code_inner+gen_cond_value+gen_into+gen_jumps+gen_junction+gen_not+gen_operand+gen_operator+gen_pair+gen_ternary+gen_test+gen_two.Lts-gen_not as lts
+use Rattle.codegen.proofs.rules.+gen_arms+gen_branch+gen_code_inner+gen_cond_value+gen_into+gen_jumps+gen_junction+gen_not+gen_operand+gen_operator+gen_pair+gen_ternary+gen_test+gen_two.Proof.Measures.{gen-branch-below, gen-not-at}
 
 module _ (t : ℕ) where
   abbrev cl : lts.Claims

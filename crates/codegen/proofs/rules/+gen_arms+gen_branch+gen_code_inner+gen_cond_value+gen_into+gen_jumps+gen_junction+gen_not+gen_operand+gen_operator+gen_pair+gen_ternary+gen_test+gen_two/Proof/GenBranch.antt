@@ -1,4 +1,4 @@
--- `gen_branch`: The rule meets its contract. Assumes nothing.
+-- `gen_branch`: The rule meets its contract.
 use Prim.Native.Nat.{ℕ}
 use Rattle.codegen.proofs.Walk.{rules, is-kind, branch-over-not, is-not, same-eqb, junction-found, branch-over-junction, branch-over-test}
 use Rattle.codegen.proofs.rules.gen_branch.Reads as gen-branch
@@ -7,8 +7,8 @@ use Rattle.codegen.proofs.rules.gen_not.Reads as gen-not
 use Rattle.codegen.proofs.rules.gen_test.Reads as gen-test
 use Rattle.fold.proofs.opcodes.is_junction.Reads as is-junction-reads
 use Rattle.table.proofs.kind_at.Reads as kind-at-reads
-use Rattle.codegen.proofs.rules.+gen_arms+gen_bin_op+gen_branch+gen_code_inner+gen_cond_value+gen_into+gen_jumps+gen_junction+gen_not+gen_operand+gen_pair+gen_ternary+gen_test+gen_two.Lts-gen_branch as lts
-use Rattle.codegen.proofs.rules.+gen_arms+gen_bin_op+gen_branch+gen_code_inner+gen_cond_value+gen_into+gen_jumps+gen_junction+gen_not+gen_operand+gen_pair+gen_ternary+gen_test+gen_two.Proof.Measures.{gen-branch-at, gen-junction-below, gen-not-below, gen-test-below}
+use Rattle.codegen.proofs.rules.+gen_arms+gen_branch+gen_code_inner+gen_cond_value+gen_into+gen_jumps+gen_junction+gen_not+gen_operand+gen_operator+gen_pair+gen_ternary+gen_test+gen_two.Lts-gen_branch as lts
+use Rattle.codegen.proofs.rules.+gen_arms+gen_branch+gen_code_inner+gen_cond_value+gen_into+gen_jumps+gen_junction+gen_not+gen_operand+gen_operator+gen_pair+gen_ternary+gen_test+gen_two.Proof.Measures.{gen-branch-at, gen-junction-below, gen-not-below, gen-test-below}
 
 module _ (t : ℕ) where
   abbrev cl : lts.Claims
