@@ -5,7 +5,7 @@ use lib.Dec.{ltb, leb}
 use lib.IntN.{ℤ, pos}
 use mir.Syntax.{w64}
 use mir.Val.{toZ}
-use Rattle.int64.specs.Sign.{bitsOf}
+use Rattle.int64.specs.Patterns.{bitsOf}
 use Rattle.int64.specs.Order.{Order, orderZ}
 use Rattle.float.specs.Bits.{sign, rest}
 use Rattle.float.specs.Standing.{standing}

@@ -10,7 +10,8 @@ use mir.Syntax.{w64}
 use mir.Val.{toZ, Fits}
 use mir.ValLaws.{toZ-fits}
 use borrow.Author.Tests.{lt-ltb, le-ltb, le-leb, lt-leb, ltb-false, leb-true, leb-false}
-use Rattle.int64.specs.Sign.{bitsOf, negative}
+use Rattle.int64.specs.Patterns.{bitsOf}
+use Rattle.int64.specs.Sign.{negative}
 use Rattle.int64.specs.Order.{orderZ, holds}
 use Rattle.int64.specs.declared.order.Cmp.{Cmp}
 use Rattle.int64.proofs.sign.Laws.{never}

@@ -12,7 +12,8 @@ use lib.Signed.{ltZ, mag}
 use mir.Syntax.{w64}
 use mir.Val.{toZ, SFits}
 use borrow.Author.Tests.{lt-ltb, le-ltb, le-leb, ltb-true, ltb-false, leb-true, leb-false, eqb-true, eq-eqb, ne-eqb}
-use Rattle.int64.specs.Sign.{negative, withSign, bitsOf}
+use Rattle.int64.specs.Sign.{negative, withSign}
+use Rattle.int64.specs.Patterns.{bitsOf}
 use Rattle.int64.specs.Exact.{inRange}
 use Rattle.int64.specs.Order.{Order, less, equal, greater, unordered, orderZ}
 use Rattle.int64.proofs.sign.Laws.{never}
