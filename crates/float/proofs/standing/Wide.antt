@@ -3,7 +3,7 @@
 use mathlib.Core.Path.{_≡_, refl, sym, ap, ap₂, _∙_, subst}
 use mathlib.Core.Bool.{Bool, true, false, cond}
 use Prim.Native.Nat.{ℕ, zero, suc, _+_, _-_, _*_, _/_, _%_, _^_, _≤_, _<_}
-use native.Mathlib.Nat.{le-trans, lt-of-le-of-lt, lt-of-lt-of-le, mul-assoc, mul-comm, mul-one, zero-mul, mul-le-mul-right, mul-le-mul-left, mul-lt-mul-of-pos-right}
+use native.Mathlib.Nat.{le-trans, lt-of-le-of-lt, lt-of-lt-of-le, mul-assoc, mul-comm, mul-one, zero-mul, mul-le-mul-right, mul-le-mul-left, mul-lt-mul-of-pos-right, mod-eq-of-lt}
 use native.Mathlib.Omega.{arith}
 use lib.Dec.{ltb, leb, eqb}
 use lib.IntN.{ℤ, pos, negsuc, natAbs, negℤ}
@@ -11,13 +11,12 @@ use lib.Pow.{pow-pos, pow-mono, pow-add}
 use lib.Signed.{ltZ, mag}
 use mir.Syntax.{w64}
 use mir.Val.{toZ, SFits}
+use mir.ValLaws.{toZ-pos, toZ-neg}
 use borrow.Author.Tests.{lt-ltb, le-ltb, le-leb, ltb-true, ltb-false, leb-true, leb-false, eqb-true, eq-eqb, ne-eqb}
 use Rattle.int64.specs.Sign.{negative, withSign}
 use Rattle.int64.specs.Patterns.{bitsOf}
-use Rattle.int64.specs.Exact.{inRange}
 use Rattle.int64.specs.Order.{Order, less, equal, greater, unordered, orderZ}
 use Rattle.int64.proofs.sign.Laws.{never}
-use Rattle.int64.proofs.exact.Laws.{sign-number}
 use Rattle.float.specs.Bits.{Real, nan, inf, fin, sign, rest, infinity, isNan, scaled, units, read}
 use Rattle.float.specs.Order.{order}
 use Rattle.float.specs.Standing.{exactly, standing}
@@ -210,11 +209,12 @@ whole-limit r h k = go (ltb r two63) refl
     go true e = let l : wholePart r < 2 ^ 63 = whole-below r h (ltb-true r two63 e) in omega arith
     go false e = let z : r ≡ two63 = omega (arith, ltb-false r two63 e) in rw z (omega arith)
 
-in-range : (s : Bool) (m : ℕ) → m ≤ 2 ^ 63 → (s ≡ false → m < 2 ^ 63) → inRange (withSign s m) ≡ true
-unfolding inRange withSign
-in-range false m h k = lt-ltb m (2 ^ 63) (k refl)
-in-range true zero h k = refl
-in-range true (suc m) h k = lt-ltb m (2 ^ 63) (omega arith)
+-- its pattern, which 2^63 has only with a minus sign
+bits-read : (s : Bool) (m : ℕ) → m ≤ 2 ^ 63 → (s ≡ false → m < 2 ^ 63) → toZ w64 (bitsOf s m) ≡ withSign s m
+unfolding withSign bitsOf
+bits-read false m h k = toZ-pos w64 m (k refl)
+bits-read true zero h k = refl
+bits-read true (suc m) h k = ap (toZ w64) (mod-eq-of-lt (let l : 2 ^ 64 - suc m < 2 ^ 64 = omega arith in l)) ∙ toZ-neg w64 m (omega arith)
 
 -- ---- a finite float, by its size
 
@@ -249,8 +249,8 @@ module _ (n : ℤ) (s : Bool) (r : ℕ) (f : SFits w64 n) where
   near-finite w e false d =
       let l : two52 ≤ r = ltb-false r two52 d in
       let m = near-limit e in
-      let i : inRange (withSign s (wholePart r)) ≡ true = in-range s (wholePart r) (whole-limit r l (m .0)) (λ k. whole-below r l (m .1 k)) in
-      alike n s (wholePart r) (units r) (mid-units r l) ∙ ap (orderZ n) (sym (sign-number s (wholePart r) i))
+      alike n s (wholePart r) (units r) (mid-units r l)
+      ∙ ap (orderZ n) (sym (bits-read s (wholePart r) (whole-limit r l (m .0)) (λ k. whole-below r l (m .1 k))))
 
 -- 0 is an Int too
 zero-fits : SFits w64 (pos 0)
