@@ -81,7 +81,8 @@ extern "C" {
 enum vosemaqe_number {
     VOSEMAQE_DONE = 0,
     VOSEMAQE_BAD_SHAPE = 1,     /* table empty, not a multiple of 4 words, or over VOSEMAQE_MAX_NODES */
-    VOSEMAQE_BAD_NODE = 2,      /* unknown kind, non-zero payload, missing child, wrong first or depth, or last node's first not 0 */
+    VOSEMAQE_BAD_NODE = 2,      /* unknown kind, non-zero payload, a Float that is not finite, missing child, wrong first or depth, or
+                                   last node's first not 0 */
     VOSEMAQE_TOO_DEEP = 3,      /* depth over VOSEMAQE_MAX_DEPTH */
     VOSEMAQE_NOT_LOCAL = 4,     /* Ref or destination not below the base */
     VOSEMAQE_NO_REGISTER = 5,   /* parameters plus locals, or an allocation, pass VOSEMAQE_MAX_REGISTERS */

@@ -217,6 +217,10 @@ int main(void) {
     less_ternary(0); gives(2, (const uint8_t[]){3, 3}, (const uint64_t[]){nan, one}, 0, VOSEMAQE_INT, 2);
     less_ternary(1); gives(2, (const uint8_t[]){3, 3}, (const uint64_t[]){nan, one}, 0, VOSEMAQE_INT, 1);
     less_ternary(0); gives(2, (const uint8_t[]){0, 3}, (const uint64_t[]){0, one}, VOSEMAQE_WRONG_KIND, 0, 0);
+    /* document 02, W8: a Float literal is finite; a register may hold any Float */
+    leaf(VOSEMAQE_NODE_FLOAT, 0x7FF0000000000000u); EXPECT(compiles(0, 0) == VOSEMAQE_BAD_NODE);
+    leaf(VOSEMAQE_NODE_FLOAT, nan); EXPECT(compiles(0, 0) == VOSEMAQE_BAD_NODE);
+    leaf(VOSEMAQE_NODE_FLOAT, 0xFFEFFFFFFFFFFFFFu); EXPECT(compiles(0, 0) == 0);
     /* 5: a test 5 < a, jumping if false */
     num(5); ref(0); over(VOSEMAQE_NODE_LT, 2); num(1); num(2); over(VOSEMAQE_NODE_TERNARY, 3);
     EXPECT(compiles(1, 0) == 0 && is(code[0], VOSEMAQE_OP_JNGT_IMM16, 0, 5, 2, 0, 0));

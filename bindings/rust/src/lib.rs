@@ -91,7 +91,7 @@ macro_rules! errors {
 
 errors! {
     BadShape = 1, "table empty, not a multiple of 4 words, or over 4,096 nodes";
-    BadNode = 2, "unknown kind, non-zero payload, missing child, wrong first or depth, or last node's first not 0";
+    BadNode = 2, "unknown kind, non-zero payload, a Float that is not finite, missing child, wrong first or depth, or last node's first not 0";
     TooDeep = 3, "depth over 64";
     NotLocal = 4, "Ref or destination not below the base";
     NoRegister = 5, "parameters plus locals, or an allocation, pass 65,535 registers";

@@ -5,7 +5,7 @@ use Prim.Native.Nat.{ℕ}
 abbrev pub badShape : ℕ
 badShape = 1
 
--- unknown kind, non-zero payload, missing child, wrong first or depth, or the last node's first is not 0
+-- unknown kind, non-zero payload, a Float that is not finite, missing child, wrong first or depth, or the last node's first is not 0
 abbrev pub badNode : ℕ
 badNode = 2
 

@@ -6,7 +6,7 @@ pub const NONE: u8 = 0;
 // The table is empty, not a multiple of 4 words, or over MAX_NODES nodes.
 pub const BAD_SHAPE: u8 = 1;
 
-// Unknown kind, non-zero payload, missing child, wrong first or depth, or the last node's first is not 0.
+// Unknown kind, non-zero payload, a Float that is not finite, missing child, wrong first or depth, or the last node's first is not 0.
 pub const BAD_NODE: u8 = 2;
 
 // Depth over MAX_DEPTH.

@@ -143,11 +143,11 @@ fn leaf(r: &mut Rng, b: &mut Builder, s: Shape, want: Want) {
     match want {
         Want::Bool => { b.op(r.pick(&[TRUE, FALSE])); }
         Want::Int => { b.int(int(r)); }
-        Want::Num => { if r.chance(70) { b.int(int(r)) } else { b.node(FLOAT, float(r)) }; }
+        Want::Num => { if r.chance(70) { b.int(int(r)) } else { b.node(FLOAT, literal(r)) }; }
         Want::Any => match r.below(8) {
             0 => { b.op(NIL); }
             1 => { b.op(r.pick(&[TRUE, FALSE])); }
-            2 | 3 => { b.node(FLOAT, float(r)); }
+            2 | 3 => { b.node(FLOAT, literal(r)); }
             _ => { b.int(int(r)); }
         },
     }
@@ -156,6 +156,11 @@ fn leaf(r: &mut Rng, b: &mut Builder, s: Shape, want: Want) {
 /// A Float's bits: one worth trying, a small number of eighths, or anything.
 pub fn float(r: &mut Rng) -> u64 {
     if r.chance(70) { r.pick(&FLOATS) } else if r.chance(50) { (r.next() as i16 as f64 / 8.0).to_bits() } else { r.next() }
+}
+
+/// A Float literal's bits: finite, since any other is damage.
+pub fn literal(r: &mut Rng) -> u64 {
+    loop { let p = float(r); if f64::from_bits(p).is_finite() { return p } }
 }
 
 /// Appends a tree of `n` nodes and at most `depth` levels.
@@ -262,7 +267,7 @@ pub fn damage(r: &mut Rng, job: &Job) -> Job {
     let mut j = job.clone();
     let n = j.table.len() / 4;
     let at = 4 * r.below(n as u64) as usize;
-    match r.below(17) {
+    match r.below(18) {
         0 => j.table.clear(),
         1 => { let k = j.table.len() - 1 - r.below(3) as usize; j.table.truncate(k) }
         2 => j.table[at] = 27 + r.below(4),
@@ -284,7 +289,13 @@ pub fn damage(r: &mut Rng, job: &Job) -> Job {
             for _ in depth..MAX_DEPTH + r.below(3) { b.op(r.pick(&[MINUS, NOT])); }
             j.table = b.words
         }
-        15 => j.dst = Some(r.pick(&[j.base(), j.base() + 1, 65_535, 65_536, 1 << 32, u64::MAX - 1])),
+        15 => {
+            // a Float that is not finite in place of a leaf
+            let leaf = (0..n).map(|i| 4 * i).filter(|i| arity(j.table[*i]) == Some(0)).last().unwrap_or(at);
+            j.table[leaf] = FLOAT;
+            j.table[leaf + 1] = r.pick(&FLOATS[9..15]);
+        }
+        16 => j.dst = Some(r.pick(&[j.base(), j.base() + 1, 65_535, 65_536, 1 << 32, u64::MAX - 1])),
         _ => { j.params = r.pick(&[65_535, 65_536, 32_768, 1 << 32]); j.locals = r.pick(&[0, 1, 32_767, 32_768, 1 << 32]) }
     }
     j

@@ -95,6 +95,7 @@ pub fn refusal(t: &[u64], params: u64, locals: u64, dst: Option<u64>) -> Option<
         let (kind, payload, first, depth) = (t[4 * i], t[4 * i + 1], t[4 * i + 2], t[4 * i + 3]);
         let Some(arity) = arity(kind) else { return Some((2, "unknown kind")) };
         if !matches!(kind, INT | FLOAT | REF) && payload != 0 { return Some((2, "payload")) }
+        if kind == FLOAT && !f64::from_bits(payload).is_finite() { return Some((2, "not finite")) }
         // children from the last one down; `low` is the lowest node so far
         let (mut low, mut deepest) = (i as u64, 0);
         for _ in 0..arity {

@@ -73,6 +73,17 @@ pub fn make() -> Pair {
         }
     }
 
+    // a Float literal that is not finite: 2, with the payload rule; any Int payload stays
+    for payload in [0x7FF0_0000_0000_0000, 0xFFF0_0000_0000_0000, 0x7FF8_0000_0000_0000, 0x7FF0_0000_0000_0001, u64::MAX, 0x7FEF_FFFF_FFFF_FFFF,
+                    0xFFEF_FFFF_FFFF_FFFF, 1 << 63, 1, 0] {
+        for kind in [NIL, INT, FLOAT] { one(&mut out, &[kind, payload, 0, 1], 0, 0, None, &none) }
+        one(&mut out, &[FLOAT, payload, 0, 0], 0, 0, None, &none);
+        // after the faults of an earlier node, of the destination and of the layout
+        one(&mut out, &[REF, 0, 0, 1, FLOAT, payload, 1, 1, ADD, 0, 0, 2], 0, 0, None, &none);
+        for dst in [None, Some(0)] { one(&mut out, &[FLOAT, payload, 0, 1], 0, 0, dst, &none) }
+        one(&mut out, &[FLOAT, payload, 0, 1], 65_535, 1, None, &none);
+    }
+
     // left before right, and what is skipped: two faults in every pair of places
     for kind in BIT_AND..=OR {
         for left in 20..=24 {
@@ -167,7 +178,7 @@ pub fn make() -> Pair {
         one(&mut out, &job.table, job.params, job.locals, job.dst, &lent);
     }
     assert!(2 * ended.0 > ended.1, "most random runs end in a value: {ended:?}");
-    for what in ["check 0", "check 1, empty", "check 1, not a multiple of 4 words", "check 1, too many nodes", "check 2, unknown kind", "check 2, payload",
+    for what in ["check 0", "check 1, empty", "check 1, not a multiple of 4 words", "check 1, too many nodes", "check 2, unknown kind", "check 2, payload", "check 2, not finite",
                  "check 2, missing child", "check 2, first", "check 2, depth", "check 2, last node's first", "check 3, too deep", "check 4, destination",
                  "check 4, Ref", "check 5, layout"] { out.must_meet(what) }
     for n in (0..=5).chain(20..=24).chain([26, 29]) { out.must_meet(&format!("evaluate {n}")) }
