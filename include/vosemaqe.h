@@ -43,8 +43,9 @@
  *     DIV converts both to Float. Floats as IEEE 754 says, to nearest, ties to even; a NaN that arithmetic yields is 0x7FF8000000000000.
  *   - MOD: Ints, the sign of the dividend, 22 for a zero divisor. BIT_AND, BIT_OR, BIT_XOR: Ints. LSHIFT: exact, or 21; RSHIFT rounds toward minus
  *     infinity; an amount outside 0..63 is 24.
- *   - LT, LE, GT, GE: numbers; a NaN is unordered. EQ, NE: any values; different kinds are unequal, but an Int and a Float are compared as numbers, under the
- *     conversion rule above.
+ *   - LT, LE, GT, GE: numbers; a NaN is unordered. EQ, NE: any values; different kinds are unequal, but an Int and a Float are compared as
+ *     numbers. An Int beside a Float is compared exactly, as the integer that it is with the number that the Float is: never 23, whatever their size. The
+ *     infinities lie beyond every Int; a NaN is unordered and unequal; -0.0 is 0.
  *   - AND, OR, NOT and a TERNARY's test want a Bool (20), and skip what they need not evaluate.
  *
  * RUNNING AGREES WITH EVALUATING. This is proved for every table that a compile accepts and for every value that its locals may hold. Lend to vosemaqe_run
@@ -95,7 +96,7 @@ enum vosemaqe_number {
     VOSEMAQE_WRONG_KIND = 20,   /* wrong kind of value */
     VOSEMAQE_OVERFLOW = 21,     /* integer result outside 64 bits signed */
     VOSEMAQE_MOD_BY_ZERO = 22,
-    VOSEMAQE_NOT_EXACT = 23,    /* Int outside -2^53..2^53 meets a Float, or stands in Div */
+    VOSEMAQE_NOT_EXACT = 23,    /* Int outside -2^53..2^53 meets a Float in Add, Sub or Mul, or stands in Div; no comparison gives it */
     VOSEMAQE_BAD_SHIFT = 24,    /* shift amount outside 0..63 */
     VOSEMAQE_BUDGET_SPENT = 25,
     VOSEMAQE_OUT_OF_RANGE = 26, /* register, slot, start, part or taken target out of range; fewer locals than the base */

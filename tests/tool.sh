@@ -32,12 +32,11 @@ check() {
 tool=./vosemaqe
 
 # ---- the samples
-for file in samples/*.txt; do
-    check "$file" 0 "total: " $tool "$file"
-done
-check "README's first example" 0 "words: true in r3 after 3 steps" $tool samples/feed_back.txt
-check "README's second example" 1 "tree:  fault 20: wrong kind of value" $tool crates/cli/data/faults.txt
-check "several files" 0 "== Duty of the chopper, written to a local" $tool samples/feed_back.txt samples/chopper.txt
+check "README's example" 0 "words: true in r3 after 3 steps" $tool samples/feed_back.txt
+check "the chopper" 0 "total: 5 with a value, 0 refused, 0 stopped by a fault, 0 unreadable" $tool samples/chopper.txt
+check "what stops" 1 "total: 1 with a value, 2 refused, 2 stopped by a fault, 0 unreadable" $tool samples/stops.txt
+check "one that stops" 1 "tree:  fault 20: wrong kind of value" $tool crates/cli/data/faults.txt
+check "several files" 0 "== Duty cycle of the chopper, written to a local" $tool samples/feed_back.txt samples/chopper.txt
 printf 'int 2\nint 3\nadd\n' >"$room/sum"
 check "a file" 0 "tree:  int 5" $tool "$room/sum"
 check "standard input" 0 "tree:  int 5" sh -c "$tool <'$room/sum'"
@@ -87,7 +86,7 @@ check "a closed output" 2 "not all could be written" sh -c "$tool '$room/sum' >&
 # ---- help
 check "--help" 0 "Exit status: 0 every expression has a value" $tool --help
 check "-h" 0 "usage: ./vosemaqe" $tool -h
-check "--version" 0 "vosemaqe " $tool --version
+check "--version" 0 "vosemaqe $(sed -n "s/^## \([0-9.]*\).*/\1/p" CHANGELOG.md | head -n 1)" $tool --version
 
 # ---- without the kit: a folder that has the wrapper and sources newer than any program
 mkdir -p "$room/bare/crates/cli/src" "$room/bare/target/bin"

@@ -51,11 +51,14 @@ int main(void) {
         {"a == b ? 1 : 2, Bools", 4, {W(46, 0, 1, 2), 0x04000203ull, 0x141ull, 0x08000203ull}, {1, 1}, {1, 1}, 100, 10000},
         {"a == b ? 1 : 2, Ints", 4, {W(46, 0, 1, 2), 0x04000203ull, 0x141ull, 0x08000203ull}, {2, 2}, {7, 7}, 100, 10000},
         {"a == 5 ? 1 : 2, on a Float", 4, {W(56, 0, 5, 2), 0x04000203ull, 0x141ull, 0x08000203ull}, {3}, {F(5)}, 100, 10000},
+        {"a < b ? 1 : 2, wide Int, Float", 4, {0x0000020001000033ull, 0x04000203ull, 0x141ull, 0x08000203ull}, {2, 3}, {(1ull << 60) + 1, F(0x1p60)}, 100, 10000},
+        {"a < b ? 1 : 2, Float, wide Int", 4, {0x0000020001000033ull, 0x04000203ull, 0x141ull, 0x08000203ull}, {3, 2}, {F(0.5), 1ull << 62}, 100, 10000},
+        {"a == b ? 1 : 2, wide Int, inf", 4, {W(46, 0, 1, 2), 0x04000203ull, 0x141ull, 0x08000203ull}, {2, 3}, {1ull << 62, 0x7ff0000000000000ull}, 100, 10000},
         {"a >> 3 & 0xFF0", 1, {W(17, 1, 0, 3 | 4 << 6 | 8 << 12)}, {2}, {0xabcdef}, 100, 10000},
         {"slot, mov", 2, {5ull | 1ull << 8, W(4, 2, 1, 0)}, {2}, {7}, 100, 10000},
     };
     int bad = 0;
-    printf("%-27s %8s %8s %6s\n", "ns a step", "proved", "plain", "ratio");
+    printf("%-31s %8s %8s %6s\n", "ns a step", "proved", "plain", "ratio");
     for (size_t i = 0; i < sizeof jobs / sizeof *jobs; i++) {
         uint8_t k[2][REGS]; uint64_t p[2][REGS], r[2][3]; double best[2] = {1e9, 1e9};
         for (int n = 0; n < 400; n++)
@@ -64,7 +67,7 @@ int main(void) {
                 if (t < best[plain]) best[plain] = t;
             }
         if (memcmp(r[0], r[1], sizeof *r) || memcmp(k[0], k[1], REGS) || memcmp(p[0], p[1], sizeof *p)) { printf("%s: the two differ\n", jobs[i].name); bad = 1; }
-        printf("%-27s %8.2f %8.2f %6.2f\n", jobs[i].name, best[0], best[1], best[0] / best[1]);
+        printf("%-31s %8.2f %8.2f %6.2f\n", jobs[i].name, best[0], best[1], best[0] / best[1]);
     }
     return bad;
 }

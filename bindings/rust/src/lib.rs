@@ -105,7 +105,7 @@ errors! {
     WrongKind = 20, "wrong kind of value";
     Overflow = 21, "integer result outside 64 bits signed";
     ModByZero = 22, "Mod by zero";
-    NotExact = 23, "Int outside -2^53..2^53 meets a Float, or stands in Div";
+    NotExact = 23, "Int outside -2^53..2^53 meets a Float in Add, Sub or Mul, or stands in Div";
     BadShift = 24, "shift amount outside 0..63";
     BudgetSpent = 25, "budget spent";
     OutOfRange = 26, "register, slot, start, part or taken target out of range, or fewer locals than the base";

@@ -31,7 +31,7 @@ use Rattle.float.specs.declared.Whole.the-variants.{Is, Wide}
 use Rattle.value.specs.Value.{Datum, nil, bool, int, float}
 use Rattle.value.specs.Answer.{Result, is, fault, isNumber}
 use Rattle.ops.specs.Arith.{ofNumbers, fromInt, converted, floats, asFloats, arithOf, wholeOf}
-use Rattle.ops.specs.Compare.{Standing, stands, apart, standing, judged, mixed, mirror, compareNumbers, compareOthers, compareOf, same}
+use Rattle.ops.specs.Compare.{mixed, mirror, compareNumbers, compareOthers, compareOf, same}
 use Rattle.ops.specs.Not.{notOf, negate}
 use Rattle.ops.specs.Ops.{minusOf, binaryOf}
 use Rattle.value.proofs.RoundTrip.{Holds}
@@ -215,12 +215,8 @@ wholes op (int a) (float q) s t = record { back = tt }
 wholes op (float p) y s t = record { back = tt }
 
 mixes : (c : Cmp) (n : ℤ) (q : ℕ) → Held (mixed c n q)
-unfolding mixed judged
-mixes c n q = go (standing n q)
-  where
-    go : (s : Standing) → Held (judged c s)
-    go (stands o) = record { back = tt }
-    go apart = record { back = tt }
+unfolding mixed
+mixes c n q = record { back = tt }
 
 compared : (c : Cmp) (x y : Datum) → Held (compareNumbers c x y)
 unfolding compareNumbers

@@ -1,12 +1,12 @@
--- The comparisons of values, by document 01, "Values": a value, or the number of a fault, in the order 20, 23.
-use Prim.Native.Nat.{ℕ, _^_}
+-- The comparisons of values, by document 01, "Values", and document 02, W4: a value, or 20.
+use Prim.Native.Nat.{ℕ}
 use mathlib.Core.Bool.{Bool, not, _&&_, cond}
-use lib.Dec.{leb, eqb}
-use lib.IntN.{ℤ, natAbs}
-use Rattle.faults.specs.Numbers.{wrongKind, notExact}
-use Rattle.float.specs.Float as F
+use lib.Dec.{eqb}
+use lib.IntN.{ℤ}
+use Rattle.faults.specs.Numbers.{wrongKind}
 use Rattle.float.specs.Order.{order}
 use Rattle.float.specs.Bits.{read}
+use Rattle.float.specs.Standing.{standing}
 use Rattle.int64.specs.Order.{Order, orderZ, holds}
 use Rattle.int64.specs.declared.order.Cmp.{Cmp}
 use Rattle.int64.specs.declared.order.Cmp.the-variants.{Eq, Ne, Lt, Le, Gt, Ge}
@@ -15,21 +15,9 @@ use Rattle.value.specs.Answer.{Result, fault, truth, isNumber}
 
 -- ---- order: numbers only
 
--- How an Int stands to a Float, or that the two may not be compared: an Int in -2^53..2^53 is compared as the Float of that value, any other is 23.
-pub data Standing : Type 0 where
-  stands : Order → Standing
-  apart : Standing
-
-unfoldable pub standing : ℤ → ℕ → Standing
-standing n q = cond (leb (natAbs n) (2 ^ 53)) (stands (order (read (F.ofInt n)) (read q))) apart
-
-unfoldable pub judged : Cmp → Standing → Result
-judged c (stands o) = truth (holds c o)
-judged c apart = fault notExact
-
--- an Int with a Float
+-- an Int with a Float: the true integer is compared with the float's exact value
 unfoldable pub mixed : Cmp → ℤ → ℕ → Result
-mixed c n q = judged c (standing n q)
+mixed c n q = truth (holds c (standing n q))
 
 -- a Float with an Int: the comparison with its operands exchanged
 abbrev pub mirror : Cmp → Cmp

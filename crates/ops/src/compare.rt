@@ -1,4 +1,4 @@
-// The comparisons of values, each with its faults in the order 20, 23.
+// The comparisons of values. Their one fault is 20.
 ghost use mathlib.Core.Path.{_≡_};
 ghost use mathlib.Core.Bool.{_&&_};
 ghost use lib.Dec.{eqb};
@@ -8,7 +8,6 @@ ghost use Rattle.value.specs.Value.{meaning};
 ghost use Rattle.value.specs.Answer.{resultOf};
 ghost use Rattle.value.specs.Seen.{shown};
 ghost use Rattle.ops.specs.Compare as Ops;
-use float::Whole;
 use int64::order::Cmp;
 use value::Value;
 use value::answer::Answer;
@@ -33,15 +32,11 @@ fn mirror(op: Cmp) -> Cmp
     }
 }
 
-// The comparison rule: the Int of pattern p with the Float of pattern q.
+// The Int of pattern p with the Float of pattern q, as the numbers that they are.
 fn mixed(op: Cmp, p: u64, q: u64) -> Answer
     ensures { λ r. ⌜ resultOf r ≡ Ops.mixed op (toZ w64 p) q ⌝ }
 {
-    let w = float::from_int(p);
-    match w {
-        Whole::Is(n) => bool_answer(float::order::compare(op, n, q)),
-        Whole::Wide => Answer::Fault(faults::NOT_EXACT),
-    }
+    bool_answer(float::standing::stands(op, p, q))
 }
 
 fn compare_numbers(op: Cmp, a: Number, b: Number) -> Answer

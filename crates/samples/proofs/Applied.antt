@@ -17,6 +17,8 @@ use Rattle.value.specs.Value as Val
 use Rattle.value.specs.Answer as Answer
 use Rattle.ops.specs.Arith as Arith
 use Rattle.ops.specs.Compare as Compare
+use Rattle.float.specs.Standing as Standing
+use Rattle.int64.specs.Sign as Sign
 use Rattle.ops.specs.Not as Not
 use Rattle.int64.specs.Order as Order
 use Rattle.int64.specs.Int as I
@@ -79,5 +81,5 @@ supplied =
     }
 
 pub applied : Agrees None 2 2 made kinds payloads (Answer.is (Val.int (pos 2))) (Run.runOf (made .words) [] [] 4 0 kinds payloads)
-unfolding Faults.fault Faults._or-else_ Table.tempBase Table.arity Table.children Table.spanFault Table.nodeFault Table.nodesFault Table.shapeFault Table.layoutFault Table.destFault Table.lastFault Table.checkOf Tree.kindOf Tree.build Tree.treeAt Tree.tree Val.ofPair Val.allWell Val.datums Answer.isNumber Arith.ofNumbers Arith.fromInt Arith.arithOf Compare.standing Compare.judged Compare.mixed Compare.compareNumbers Compare.compareOf Not.notOf Order.holds Exact.inRange I.checked I.exact Exact.arith I.operate FBits.read F.halvings F.toNearest F.rounded order F.ofInt Eval.leafOf Eval.unaryOf Eval.cmpOf Apply.on Apply.both Apply.whether Eval.binaryOf Eval.evalOf Evaluate.localsFault Evaluate.unless Evaluate.evaluateOf
+unfolding Faults.fault Faults._or-else_ Table.tempBase Table.arity Table.children Table.spanFault Table.nodeFault Table.nodesFault Table.shapeFault Table.layoutFault Table.destFault Table.lastFault Table.checkOf Tree.kindOf Tree.build Tree.treeAt Tree.tree Val.ofPair Val.allWell Val.datums Answer.isNumber Arith.ofNumbers Arith.fromInt Arith.arithOf Standing.standing Sign.negative Compare.mixed Compare.compareNumbers Compare.compareOf Not.notOf Order.holds Exact.inRange I.checked I.exact Exact.arith I.operate FBits.read F.halvings F.toNearest F.rounded order F.ofInt Eval.leafOf Eval.unaryOf Eval.cmpOf Apply.on Apply.both Apply.whether Eval.binaryOf Eval.evalOf Evaluate.localsFault Evaluate.unless Evaluate.evaluateOf
 applied = demand-3 choice 2 0 None 2 made accepted .agrees kinds payloads [] [] 4 supplied

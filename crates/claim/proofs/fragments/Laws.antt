@@ -15,9 +15,10 @@ use borrow.Author.Tests.{eqb-true, ne-eqb, lt-ltb, leb-true}
 use Rattle.insns.specs.declared.op.Sense.the-variants as Sense
 use Rattle.value.specs.Value.{Datum, nil, bool, int, float}
 use Rattle.value.specs.Answer.{Result, is, fault, truth as yes, isNumber}
-use Rattle.ops.specs.Compare.{standing, Standing, stands, apart, judged, mixed, compareNumbers, compareOthers, compareOf, same}
+use Rattle.ops.specs.Compare.{mixed, compareNumbers, compareOthers, compareOf, same}
 use Rattle.ops.specs.Not.{notOf, negate}
 use Rattle.ops.specs.Ops.{eqOf, neOf, binaryOf}
+use Rattle.ops.proofs.Comparing.{ne-is}
 use Rattle.int64.specs.Mask.{maskOf}
 use Rattle.int64.specs.Order.{orderZ, isEqual}
 use Rattle.int64.specs.Order as Order
@@ -138,23 +139,9 @@ cmp-is k c e true a b = ap test (both-is k (E.cmpOf c) e a b) ∙ as-it-is (test
 cmp-is k c e false a b = opposite (M.both k a b) ∙ ap (λ (r : Result). sameT false (test r)) (both-is k (E.cmpOf c) e a b)
 
 -- Ne is Not of Eq
-ne-mixed : (s : Standing) → judged Ne s ≡ M.inverted (judged Eq s)
-unfolding M.inverted judged notOf negate Order.holds
-ne-mixed (stands o) = refl
-ne-mixed apart = refl
-
 ne-eq : (x y : Datum) → neOf x y ≡ M.inverted (eqOf x y)
-unfolding M.inverted compareOf compareNumbers compareOthers isNumber notOf negate mixed judged standing Order.holds
-ne-eq nil y = refl
-ne-eq (bool b) y = refl
-ne-eq (int a) nil = refl
-ne-eq (int a) (bool b) = refl
-ne-eq (int a) (int b) = refl
-ne-eq (int a) (float q) = ne-mixed (standing a q)
-ne-eq (float p) nil = refl
-ne-eq (float p) (bool b) = refl
-ne-eq (float p) (int b) = ne-mixed (standing b p)
-ne-eq (float p) (float q) = refl
+unfolding M.inverted
+ne-eq x y = ne-is x y
 
 not-equal : (a b : Result) → Apply.both (E.cmpOf ne) a b ≡ M.inverted (Apply.both (E.cmpOf eq) a b)
 unfolding Apply.both Apply.on E.cmpOf M.inverted negate

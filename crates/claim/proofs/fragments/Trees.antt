@@ -17,7 +17,7 @@ use Rattle.value.specs.Value.{Datum}
 use Rattle.value.specs.Value as Val
 use Rattle.value.specs.Answer.{Result, is, fault, isNumber}
 use Rattle.ops.specs.Not.{negate}
-use Rattle.ops.specs.Compare.{Standing, stands, apart, standing, judged, mixed, mirror as exchanged, compareNumbers, compareOthers, compareOf, same as sameDatum}
+use Rattle.ops.specs.Compare.{mixed, compareNumbers, compareOthers, compareOf, same as sameDatum}
 use Rattle.effect.specs.Effect as M
 use Rattle.effect.specs.Forms as Forms
 use Rattle.effect.proofs.EffectLaws.{shift-form, arith-form, if-form, jump-form, jump-imm-form}
@@ -101,11 +101,6 @@ or-is (is (Val.float p)) b = refl
 or-is (fault e) b = refl
 
 -- a comparison gives a Bool or a fault
-judged-bool : (c : ValueCmp) (s : Standing) → boolR (test (judged c s)) ≡ judged c s
-unfolding judged
-judged-bool c (stands o) = refl
-judged-bool c apart = refl
-
 others-bool : (c : ValueCmp) (s : Bool) → boolR (test (compareOthers c s)) ≡ compareOthers c s
 unfolding compareOthers
 others-bool VC.Eq s = refl
@@ -122,10 +117,10 @@ compare-bool c (Val.bool b) y = others-bool c (sameDatum (Val.bool b) y)
 compare-bool c (Val.int a) Val.nil = others-bool c (sameDatum (Val.int a) Val.nil)
 compare-bool c (Val.int a) (Val.bool b) = others-bool c (sameDatum (Val.int a) (Val.bool b))
 compare-bool c (Val.int a) (Val.int b) = refl
-compare-bool c (Val.int a) (Val.float q) = judged-bool c (standing a q)
+compare-bool c (Val.int a) (Val.float q) = refl
 compare-bool c (Val.float p) Val.nil = others-bool c (sameDatum (Val.float p) Val.nil)
 compare-bool c (Val.float p) (Val.bool b) = others-bool c (sameDatum (Val.float p) (Val.bool b))
-compare-bool c (Val.float p) (Val.int b) = judged-bool (exchanged c) (standing b p)
+compare-bool c (Val.float p) (Val.int b) = refl
 compare-bool c (Val.float p) (Val.float q) = refl
 
 -- ---- what an instruction of one register makes of what is in it

@@ -7,22 +7,20 @@ use lib.Dec.{leb, eqb}
 use lib.IntN.{natAbs}
 use mir.Syntax.{w64}
 use mir.Val.{toZ}
-use Rattle.faults.specs.Numbers.{wrongKind, notExact}
+use Rattle.faults.specs.Numbers.{wrongKind}
 use Rattle.int64.proofs.sign.Laws.{never}
 use Rattle.int64.specs.Order.{orderZ, holds}
 use Rattle.int64.specs.declared.order.Cmp.{Cmp}
-use Rattle.float.specs.Float as F
 use Rattle.float.specs.Order.{order}
 use Rattle.float.specs.Bits.{read}
-use Rattle.float.specs.declared.Whole.{Whole}
-use Rattle.float.specs.declared.Whole.the-variants.{Is, Wide}
+use Rattle.float.specs.Standing.{standing}
 use Rattle.value.specs.Value.{Datum, kindOf, payloadOf}
 use Rattle.value.specs.Answer.{Result, fault, truth, isNumber}
 use Rattle.value.specs.Seen.{shown, asNumber, counts}
 use Rattle.value.specs.declared.answer.Number.{Number}
 use Rattle.value.specs.declared.answer.Number.the-variants as N
 use Rattle.value.proofs.answer.Seen.{counted, as-number, number-is}
-use Rattle.ops.specs.Compare.{standing, stands, apart, judged, mixed, mirror, compareNumbers, compareOthers, compareOf, same}
+use Rattle.ops.specs.Compare.{mixed, mirror, compareNumbers, compareOthers, compareOf, same}
 
 and-true : (s t : Bool) → (s && t) ≡ true → (s ≡ true) × (t ≡ true)
 and-true true t e = (refl, e)
@@ -44,24 +42,11 @@ module _ (x y : Datum) (a b : Number) (t : Bool) (p : shown a ≡ asNumber x) (q
   unfolding compareOf same
   compare-no c h d f g u v z = rw (sym both ∙ z) (h ∙ ap (compareOthers c) (d ∙ rw (f, g, u, v)))
 
--- ---- the comparison rule
+-- ---- an Int with a Float
 
-module _ (c : Cmp) (p q : ℕ) {w : Whole} (e : w ≡ F.whole (toZ w64 p)) where
-  pub mixed-yes : {m : ℕ} {t : Bool} {o : Result} → w ≡ Is m → t ≡ holds c (order (read m) (read q)) → o ≡ truth t → o ≡ mixed c (toZ w64 p) q
-  unfolding mixed standing judged F.whole
-  mixed-yes {m} d g h = h ∙ ap truth g ∙ go (leb (natAbs (toZ w64 p)) (2 ^ 53)) (sym e ∙ d)
-    where
-      go : (b : Bool) → cond b (Is (F.ofInt (toZ w64 p))) Wide ≡ Is m → truth (holds c (order (read m) (read q))) ≡ judged c (cond b (stands (order (read (F.ofInt (toZ w64 p))) (read q))) apart)
-      go true k = let z : m ≡ F.ofInt (toZ w64 p) = cc in rw z
-      go false k = let z : _≡_ {A = ℕ} 0 1 = cc in absurd (omega arith)
-
-  pub mixed-no : w ≡ Wide → fault notExact ≡ mixed c (toZ w64 p) q
-  unfolding mixed standing judged F.whole
-  mixed-no d = go (leb (natAbs (toZ w64 p)) (2 ^ 53)) (sym e ∙ d)
-    where
-      go : (b : Bool) → cond b (Is (F.ofInt (toZ w64 p))) Wide ≡ Wide → fault notExact ≡ judged c (cond b (stands (order (read (F.ofInt (toZ w64 p))) (read q))) apart)
-      go true k = let z : _≡_ {A = ℕ} 0 1 = cc in absurd (omega arith)
-      go false k = refl
+pub mixed-is : (c : Cmp) (p q : ℕ) {t : Bool} {o : Result} → t ≡ holds c (standing (toZ w64 p) q) → o ≡ truth t → o ≡ mixed c (toZ w64 p) q
+unfolding mixed
+mixed-is c p q d h = h ∙ ap truth d
 
 module _ (c : Cmp) (a b : Number) {o : Result} where
   pub compare-ints : {p q : ℕ} {t : Bool} → a ≡ N.Int p → b ≡ N.Int q → t ≡ holds c (orderZ (toZ w64 p) (toZ w64 q)) → o ≡ truth t → o ≡ compareNumbers c (shown a) (shown b)
@@ -93,4 +78,4 @@ module _ (c : Cmp) (a b : Number) where
   unfolding compareNumbers shown
   compare-other d = rw d
 
-pub ruleset answers = (compare-yes, compare-no, mixed-yes, mixed-no, compare-ints, compare-floats, compare-int-float, compare-float-int, compare-int-other, compare-float-other, compare-other)
+pub ruleset answers = (compare-yes, compare-no, mixed-is, compare-ints, compare-floats, compare-int-float, compare-float-int, compare-int-other, compare-float-other, compare-other)

@@ -38,6 +38,31 @@ pub const FLOATS: [u64; 24] = [
     0x47F0000000000000,                     // 2^128, boxed by the Rust
 ];
 
+/// An Int and a Float that are close, or far, where a comparison by rounding
+/// or by cutting goes wrong; then 2^k and its neighbours for k = 52 to 63,
+/// beside the Floats around 2^k, all of either sign.
+pub fn beside() -> Vec<(i64, u64)> {
+    const P53: i64 = 1 << 53;
+    let mut out = vec![
+        (P53 + 1, 0x4340000000000000), (P53, 0x4340000000000000), (P53 + 1, 0x4340000000000001), (-P53 - 1, 0xC340000000000000),
+        (i64::MAX, 0x43E0000000000000), (i64::MIN, 0xC3E0000000000000), (i64::MIN, 0xC3E0000000000001), (i64::MAX, 0x43DFFFFFFFFFFFFF),
+        (0, 0x8000000000000000), (0, 1), (0, 0x8000000000000001), (1 << 60, 0x3FE0000000000000), (1 << 62, 0x7FF0000000000000),
+        (i64::MIN, 0xFFF0000000000000), (i64::MAX, 0x7FF8000000000000), (i64::MIN, 0xFFF0000000000001), (7, 0x7FF0000000000001),
+        (-32_768, 0xC0E0000000000000), (32_767, 0x40DFFFE000000000), (5, 0x7FEFFFFFFFFFFFFF), (-5, 0xFFEFFFFFFFFFFFFF)];
+    for k in 52..=63u64 {
+        let pattern = (1023 + k) << 52;
+        for d in [-1i128, 0, 1] {
+            for q in [pattern - 1, pattern, pattern + 1] {
+                for sign in [1i128, -1] {
+                    let n = sign * ((1i128 << k) + d);
+                    if let Ok(n) = i64::try_from(n) { out.push((n, if sign < 0 { q | 1 << 63 } else { q })) }
+                }
+            }
+        }
+    }
+    out
+}
+
 /// Exponents whose powers of two are boundaries somewhere in document 01.
 const POWERS: [u32; 14] = [0, 1, 6, 15, 16, 31, 32, 37, 39, 53, 60, 61, 62, 63];
 

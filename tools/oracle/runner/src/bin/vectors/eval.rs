@@ -5,7 +5,7 @@
 //! no destination), kind and payload, zeros on a refusal or a fault.
 use crate::Pair;
 use runner::local;
-use tables::gen::{damage, good, tree, Rng, Shape};
+use tables::gen::{beside, damage, good, tree, Rng, Shape};
 use tables::meaning::evaluate;
 use tables::*;
 
@@ -61,6 +61,17 @@ pub fn make() -> Pair {
     let mut out = Pair::default();
     let none: Locals = (vec![], vec![]);
     let pairs = |v: &[(u8, u64)]| -> Locals { v.iter().copied().unzip() };
+
+    // an Int beside a Float: the pairs that the machine meets too, two comparisons of each, either way round
+    for (i, (n, q)) in beside().into_iter().enumerate() {
+        let (int, float) = ((2, n as u64), (3, q));
+        for kind in if i < 21 { EQ..=GE } else { EQ + i as u64 % 5..=EQ + i as u64 % 5 + 1 } {
+            for locals in [[int, float], [float, int]] {
+                let mut b = Builder::default();
+                one(&mut out, &b.reg(0).reg(1).op(kind).words, 2, 0, None, &pairs(&locals));
+            }
+        }
+    }
 
     // a Float literal that is not finite: 2, with the payload rule; any Int payload stays
     for payload in [0x7FF0_0000_0000_0000, 0xFFF0_0000_0000_0000, 0x7FF8_0000_0000_0000, 0x7FF0_0000_0000_0001, u64::MAX, 0x7FEF_FFFF_FFFF_FFFF,

@@ -6,7 +6,7 @@
 //! Answer: number, steps, position, then kinds and payloads after.
 use crate::Pair;
 use runner::local;
-use tables::gen::{damage, good, tree, Rng, Shape};
+use tables::gen::{beside, damage, good, tree, Rng, Shape};
 use tables::meaning::{run_lent, run_part, Ran, V};
 use tables::opcodes::{extend, pack, Kind::*, OPCODES};
 use tables::*;
@@ -93,6 +93,27 @@ fn each_opcode(r: &mut Rng, out: &mut Pair) {
             let x = V::Int(if r.chance(50) { -1 } else { r.next() as i64 });
             Run::new(&[word("bit_and_mask", &[1, 0, lo, len])], &[x, V::Nil], &[]).put(out, "mask");
             Run::new(&[word("rshift_mask", &[1, 0, r.pick(&[0, 1, 5, 62, 63]), lo, len])], &[x, V::Nil], &[]).put(out, "mask");
+        }
+    }
+}
+
+/// Every branch on an Int beside a Float, either way round, and beside the
+/// Int as a 16-bit literal where it is one: a branch that is not taken loads
+/// True into a register of its own.
+fn int_beside_float(out: &mut Pair) {
+    const NAMES: [&str; 10] = ["jeq", "jne", "jlt", "jle", "jgt", "jge", "jnlt", "jnle", "jngt", "jnge"];
+    let each = |branch: &dyn Fn(&str) -> u64| -> Vec<u64> {
+        NAMES.iter().enumerate().flat_map(|(i, name)| [branch(name), word("load_imm40", &[2 + i as i64, 9])]).collect()
+    };
+    for (n, q) in beside() {
+        let (int, float) = (V::Int(n), V::Float(f64::from_bits(q)));
+        for pair in [[int, float], [float, int]] {
+            let regs = [&pair[..], &[V::Nil; 10]].concat();
+            Run::new(&each(&|name| word(name, &[0, 1, 1])), &regs, &[]).put(out, "beside");
+        }
+        if i16::try_from(n).is_ok() {
+            let regs = [&[float, V::Nil][..], &[V::Nil; 10]].concat();
+            Run::new(&each(&|name| word(&format!("{name}_imm16"), &[0, n, 1])), &regs, &[]).put(out, "beside");
         }
     }
 }
@@ -269,6 +290,7 @@ pub fn make() -> Pair {
     let mut h = house::Oracle::new();
     let mut out = Pair::default();
     each_opcode(&mut r, &mut out);
+    int_beside_float(&mut out);
     order(&mut out);
     ill(&mut out);
     trees(&mut r, &mut h, &mut out);
@@ -279,7 +301,7 @@ pub fn make() -> Pair {
     for (op, (name, _)) in OPCODES.iter().enumerate() {
         out.must_meet(&format!("{name}: {}", if is_run(op) { 0 } else if op == 0 { 27 } else { 28 }));
     }
-    for what in ["more steps than words", "register: 20", "register: 26", "slot: 0", "slot: 26", "target: 0", "target: 20", "target: 23", "target: 26", "start: 0", "start: 26",
+    for what in ["more steps than words", "register: 20", "register: 26", "slot: 0", "slot: 26", "target: 0", "target: 20", "target: 26", "beside: 0", "start: 0", "start: 26",
                  "loop: 0", "loop: 25", "lent: 0", "lent: 26", "lent: 29", "tree: 0", "tree, spoiled: 0", "tree, spoiled: 10", "tree, spoiled: 25", "random: 0", "random: 25",
                  "part: 0", "part, any bounds: 0", "part, any bounds: 26"] { out.must_meet(what) }
     out

@@ -124,10 +124,13 @@ pub fn make() -> Pair {
             for _ in 0..1_500 { let (a, b) = halves(&mut r, kind); one(kind, float(a), float(b)) }
         }
     }
+    for (n, q) in gen::beside() {
+        for kind in EQ..=GE { one(kind, int(n), (3, q)); one(kind, (3, q), int(n)) }
+    }
     let numbers: [(std::ops::RangeInclusive<u64>, &[u8]); 10] = [
         (MINUS..=MINUS, &[0, 20, 21, 29]), (NOT..=NOT, &[0, 20, 29]), (BIT_AND..=10, &[0, 20, 29]), (LSHIFT..=LSHIFT, &[0, 20, 21, 24, 29]),
         (RSHIFT..=RSHIFT, &[0, 20, 24, 29]), (ADD..=MUL, &[0, 20, 21, 23, 29]), (DIV..=DIV, &[0, 20, 23, 29]), (MOD..=MOD, &[0, 20, 22, 29]),
-        (EQ..=NE, &[0, 23, 29]), (LT..=GE, &[0, 20, 23, 29])];
+        (EQ..=NE, &[0, 29]), (LT..=GE, &[0, 20, 29])];
     for (kinds, numbers) in numbers { for k in kinds { for n in numbers { out.must_meet(&format!("{k}: {n}")) } } }
     for class in ["Nan", "Infinite", "Infinite below", "Zero", "Zero below", "Subnormal", "Subnormal below", "Normal", "Normal below"] { out.must_meet(class) }
     out
