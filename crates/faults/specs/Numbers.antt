@@ -61,7 +61,7 @@ overflow = 21
 abbrev pub modByZero : ℕ
 modByZero = 22
 
--- an Int outside -2^53..2^53 meets a Float, or stands in Div
+-- an Int outside -2^53..2^53 meets a Float in Add, Sub or Mul, or stands in Div
 abbrev pub notExact : ℕ
 notExact = 23
 

@@ -48,7 +48,7 @@ pub const OVERFLOW: u8 = 21;
 // Mod by zero.
 pub const MOD_BY_ZERO: u8 = 22;
 
-// An Int outside -2^53..2^53 meets a Float, or stands in Div.
+// An Int outside -2^53..2^53 meets a Float in Add, Sub or Mul, or stands in Div.
 pub const NOT_EXACT: u8 = 23;
 
 // Shift amount outside 0..63.
