@@ -30,7 +30,8 @@ valueOf (b ∷ s) = (b - 48) * 10 ^ length s + valueOf s
 
 -- ---- m / 10^k, or its negative, as a float
 
--- num / den steps, and q, the pattern nearest to it: where that float is equal to it, the float; else it lies between two floats, of which the one nearer to zero is named.
+-- num / den steps, and q, the pattern nearest to it: where that float is equal to it, the float;
+-- else it lies between two floats, of which the one nearer to zero is named.
 unfoldable pub settled : Bool → ℕ → ℕ → ℕ → Real
 settled neg num den q =
     cond (eqb (units q * den) num) (Is (withSignBit neg q)) (Between (withSignBit neg (cond (ltb num (units q * den)) (q - 1) q)))
