@@ -20,7 +20,7 @@ check() {
     timeout 60 "$@" >"$room/out" 2>"$room/err" </dev/null || got=$?
     if [ "$got" -ne "$status" ]; then
         echo "tests/tool.sh: $what: status $got, not $status" >&2
-    elif [ -n "$text" ] && ! cat "$room/out" "$room/err" | grep -qF -- "$text"; then
+    elif [ -n "$text" ] && ! grep -qF -- "$text" "$room/out" "$room/err"; then
         echo "tests/tool.sh: $what: nothing says: $text" >&2
     else
         return 0
@@ -56,6 +56,31 @@ check "a refusal" 1 "refused with 4" sh -c "printf 'ref 0\n' | $tool"
 check "a fault" 1 "fault 22: Mod by zero" sh -c "printf 'int 1\nint 0\nmod\n' | $tool"
 check "a refusal names its file and line" 1 "$room/ref:2: node 1: register 7 is not below the base, 1" sh -c "printf 'ref 0\nref 7\nadd\nlocal nil\n' >'$room/ref'; $tool '$room/ref'"
 
+# ---- limits
+lines() { # TEXT COUNT: the text so many times
+    awk -v text="$1" -v count="$2" 'BEGIN { while (count-- > 0) print text }'
+}
+{ echo "ref 0" && lines not 63 && echo "local true"; } >"$room/deep64"
+check "depth 64" 0 "tree:  false" $tool "$room/deep64"
+{ echo "ref 0" && lines not 64 && echo "local true"; } >"$room/deep65"
+check "depth 65" 1 "refused with 3: depth over 64" $tool "$room/deep65"
+check "depth 65, where" 1 "$room/deep65:65: node 64: its depth is 65" $tool "$room/deep65"
+lines nil 4097 >"$room/nodes4097"
+check "4097 nodes" 1 "refused with 1: table empty, not a multiple of 4 words, or over 4096 nodes" $tool "$room/nodes4097"
+lines nil 4096 >"$room/nodes4096"
+check "4096 nodes" 1 "$room/nodes4096:4096: the last node does not take in all nodes before it" $tool "$room/nodes4096"
+# a balanced tree of Lt over Refs, whose words have positions of one to four digits
+balanced() { # LEVELS
+    if [ "$1" -eq 0 ]; then echo "ref 0"; else balanced $(($1 - 1)) && balanced $(($1 - 1)) && echo lt; fi
+}
+{ balanced 9 && echo "local int 1"; } >"$room/many"
+for line in "   9  0x" "  10  0x" "  99  0x" " 100  0x" " 999  0x" "1000  0x"; do
+    check "the word of line '$line'" 1 "$line" $tool "$room/many"
+done
+digits=$(head -c 1100 /dev/zero | tr '\0' 0)
+check "1100 digits after the point" 0 "tree:  float 0x0000000000000000 (0)" sh -c "printf 'float 0.%s\n' $digits | $tool"
+check "1101 digits after the point" 2 "more than 1100 digits after the point" sh -c "printf 'float 0.%s0\n' $digits | $tool"
+
 # ---- what cannot be read
 check "a text that cannot be read" 2 "-:1: 'lte': no kind of node" sh -c "printf 'lte\n' | $tool"
 check "a decimal that no float is equal to" 2 "0x3fe6666666666666 (0.6999999999999999555910790149937383830547332763671875) or float 0x3fe6666666666667" sh -c "printf 'float 0.7\n' | $tool"
@@ -70,6 +95,8 @@ check "nothing but comments" 2 "no expression in this text" $tool "$room/comment
 check "no text at all" 2 "-:1: no expression in this text" $tool
 printf '\357\273\277int 2\n' >"$room/bom"
 check "a byte order mark" 2 "byte order mark (BOM)" $tool "$room/bom"
+printf '\377\376i\000' >"$room/bom16" && check "one of UTF-16" 2 "byte order mark (BOM)" $tool "$room/bom16"
+printf '\376\377\000i' >"$room/bom61" && check "one of UTF-16, the other way round" 2 "byte order mark (BOM)" $tool "$room/bom61"
 head -c 300000 /dev/zero | tr '\0' '#' >"$room/long"
 check "a text that is too long" 2 "more than 262144 bytes" $tool "$room/long"
 head -c 5000 /dev/urandom >"$room/noise"
