@@ -80,7 +80,7 @@ fn say_trouble(t: Trouble) {
           more than 1100 digits after the point\n\
           \n\
           a number is missing\n\
-          there is more on this line than is read\n\
+          more words than belong on this line\n\
           first and depth are given together, or not at all\n\
           a value is nil, true, false, int N or float X",
         line_of(t),
