@@ -69,14 +69,12 @@ lines nil 4097 >"$room/nodes4097"
 check "4097 nodes" 1 "refused with 1: table empty, not a multiple of 4 words, or over 4096 nodes" $tool "$room/nodes4097"
 lines nil 4096 >"$room/nodes4096"
 check "4096 nodes" 1 "$room/nodes4096:4096: the last node does not take in all nodes before it" $tool "$room/nodes4096"
-# a balanced tree of Lt over Refs, whose words have positions of one to four digits
+# a balanced tree of 511 Lt over Refs: 2044 words, with positions of one to four digits
 balanced() { # LEVELS
     if [ "$1" -eq 0 ]; then echo "ref 0"; else balanced $(($1 - 1)) && balanced $(($1 - 1)) && echo lt; fi
 }
 { balanced 9 && echo "local int 1"; } >"$room/many"
-for line in "   9  0x" "  10  0x" "  99  0x" " 100  0x" " 999  0x" "1000  0x"; do
-    check "the word of line '$line'" 1 "$line" $tool "$room/many"
-done
+check "positions in four places" 0 2044 sh -c "$tool '$room/many' | grep -cE '^( {3}[0-9]| {2}[0-9]{2}| [0-9]{3}|[0-9]{4})  0x'"
 digits=$(head -c 1100 /dev/zero | tr '\0' 0)
 check "1100 digits after the point" 0 "tree:  float 0x0000000000000000 (0)" sh -c "printf 'float 0.%s\n' $digits | $tool"
 check "1101 digits after the point" 2 "more than 1100 digits after the point" sh -c "printf 'float 0.%s0\n' $digits | $tool"
