@@ -1,4 +1,4 @@
-// Where the fault is that the check of a table found, and what is at fault there.
+// Where in the text the fault lies that the check of a table found, and what is wrong there.
 ghost use Prim.Native.Nat.{_≤_};
 ghost use lib.ListN.{length};
 use crate::trouble::say_at;
