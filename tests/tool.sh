@@ -118,6 +118,11 @@ mkdir -p "$room/bare/crates/cli/src" "$room/bare/target/bin"
 cp vosemaqe crates.txt "$room/bare"
 check "without the kit" 2 "rt is the command of the Rattle kit" env PATH=/usr/bin:/bin "$room/bare/vosemaqe" "$room/sum"
 
+# ---- the gate compares a listing of every word that the machine runs (a * in the header), but nop, which no expression makes
+for name in $(sed -n 's/^ *VOSEMAQE_OP_\([A-Z0-9_]*\) = .*\* \*\/$/\1/p' include/vosemaqe.h | tr '[:upper:]' '[:lower:]'); do
+    [ "$name" = nop ] || check "$name in crates/cli/stdout" 0 "" grep -qE "^ *[0-9]+  0x[0-9a-f]{16}  $name( |\$)" crates/cli/stdout
+done
+
 # ---- what the tool writes of a float, it reads again as the same float
 floats=$(grep -oE 'float 0x[0-9a-f]{16} \(-?[0-9.]+\)' crates/cli/stdout | sort -u)
 while read -r _ pattern decimal; do
