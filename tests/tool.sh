@@ -33,6 +33,14 @@ tool=./vosemaqe
 
 # ---- the samples
 check "README's example" 0 "words: true in r3 after 3 steps" $tool samples/feed_back.txt
+# README shows the first expression of that file, and what the tool writes of it
+shown() { # FROM TO: the indented lines of README between two lines
+    sed -n "/^$1/,/^$2/s/^    //p" README.md
+}
+shown "The first expression of" "The tool writes" | sed 's/  *#.*//' >"$room/text"
+check "README's text is the sample's" 0 "" sh -c "grep -v '^#' samples/feed_back.txt | sed 's/  *#.*//; /^---/,\$d' | cmp - '$room/text'"
+shown "The tool writes" "Each listed word" >"$room/readme"
+check "README's output is the tool's" 0 "" sh -c "$tool samples/feed_back.txt | sed '/^\$/,\$d' | cmp - '$room/readme'"
 check "the chopper" 0 "total: 5 with a value, 0 refused, 0 stopped by a fault, 0 unreadable" $tool samples/chopper.txt
 check "what stops" 1 "total: 1 with a value, 2 refused, 2 stopped by a fault, 0 unreadable" $tool samples/stops.txt
 check "one that stops" 1 "tree:  fault 20: wrong kind of value" $tool crates/cli/data/faults.txt
