@@ -66,6 +66,8 @@ check "a refusal" 1 "refused with 4" sh -c "printf 'ref 0\n' | $tool"
 check "a fault" 1 "fault 22: Mod by zero" sh -c "printf 'int 1\nint 0\nmod\n' | $tool"
 check "a refusal names its file and line" 1 "$room/ref:2: node 1: register 7 is not below the base, 1" sh -c "printf 'ref 0\nref 7\nadd\nlocal nil\n' >'$room/ref'; $tool '$room/ref'"
 
+check "the node at fault stands after literals that are right" 1 "-:6: node 5: register 3 is not below the base, 1" \
+    sh -c "printf 'ref 0\nfloat -0.5\nadd\nint -7\nmul\nref 3\nadd\nlocal int 1\n' | $tool"
 # ---- limits
 lines() { # TEXT COUNT: the text so many times
     awk -v text="$1" -v count="$2" 'BEGIN { while (count-- > 0) print text }'
