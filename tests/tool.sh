@@ -68,6 +68,15 @@ check "a refusal names its file and line" 1 "$room/ref:2: node 1: register 7 is 
 
 check "the node at fault stands after literals that are right" 1 "-:6: node 5: register 3 is not below the base, 1" \
     sh -c "printf 'ref 0\nfloat -0.5\nadd\nint -7\nmul\nref 3\nadd\nlocal int 1\n' | $tool"
+
+# ---- the layout
+check "a parameter and a local" 0 "nodes 3, parameters 1, locals 1, no destination" sh -c "printf 'params 1\nref 0\nref 1\nadd\nlocal int 1\nlocal int 2\n' | $tool"
+check "fewer values than parameters" 1 "nodes 1, parameters 3, locals 0, no destination" sh -c "printf 'params 3\nref 0\nlocal int 1\nlocal int 2\n' | $tool"
+check "fewer values than parameters, not run" 1 "words: not run: 2 of 3 registers have a value" sh -c "printf 'params 3\nref 0\nlocal int 1\nlocal int 2\n' | $tool"
+check "a destination that is not there" 1 "-:2: destination r5 is not below the base, 1" sh -c "printf 'ref 0\ndest 5\nlocal int 1\n' | $tool"
+check "a sum that 64 bits do not hold" 1 "refused with 5" sh -c "printf 'params 18446744073709551615\nlocals 1\nnil\n' | $tool"
+check "a destination among the parameters" 0 "words: int 3 in r0 after 1 step" sh -c "printf 'params 2\nref 0\nref 1\nadd\ndest 0\nlocal int 1\nlocal int 2\n' | $tool"
+
 # ---- limits
 lines() { # TEXT COUNT: the text so many times
     awk -v text="$1" -v count="$2" 'BEGIN { while (count-- > 0) print text }'
