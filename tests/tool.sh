@@ -110,17 +110,17 @@ check "a directory" 2 "$room: Is a directory" $tool "$room"
 : >"$room/empty"
 check "an empty file" 2 "$room/empty:1: no expression in this text" $tool "$room/empty"
 printf '# nothing\n\n---\n' >"$room/comment"
-check "nothing but comments" 2 "no expression in this text" $tool "$room/comment"
+check "nothing but comments" 2 "$room/comment:1: no expression in this text" $tool "$room/comment"
 check "no text at all" 2 "-:1: no expression in this text" $tool
 printf '\357\273\277int 2\n' >"$room/bom"
-check "a byte order mark" 2 "byte order mark (BOM)" $tool "$room/bom"
+check "a byte order mark" 2 "$room/bom:1: the text begins with a byte order mark (BOM)" $tool "$room/bom"
 printf '\377\376i\000' >"$room/bom16" && check "one of UTF-16" 2 "byte order mark (BOM)" $tool "$room/bom16"
 printf '\376\377\000i' >"$room/bom61" && check "one of UTF-16, the other way round" 2 "byte order mark (BOM)" $tool "$room/bom61"
 head -c 300000 /dev/zero | tr '\0' '#' >"$room/long"
-check "a text that is too long" 2 "more than 262144 bytes" $tool "$room/long"
+check "a text that is too long" 2 "$room/long:1: the text has more than 262144 bytes" $tool "$room/long"
 head -c 5000 /dev/urandom >"$room/noise"
 check "noise" 2 "unreadable" $tool "$room/noise"
-check "an argument that is too long" 2 "unreadable" $tool "$(head -c 5000 /dev/zero | tr '\0' a)"
+check "an argument that is too long" 2 "0 stopped by a fault, 1 unreadable" $tool "$(head -c 5000 /dev/zero | tr '\0' a)"
 check "an option that there is not" 2 "no option --frob" $tool --frob
 
 # ---- what cannot be written
