@@ -12,7 +12,7 @@
  *     vosemaqe_version do not. Its time is bounded by the lengths of what it is lent, and that of a run by its budget.
  *   - It reads and writes only what it is lent. It allocates nothing, keeps nothing, has no state, and calls nothing but memset. So any number of
  *     threads may call at once, each with buffers of its own; a buffer that is only read may be shared.
- *   - Every result cell is written. Where the number is not 0 the cells hold 0, except the steps and the position of a run: a stopped run has these too.
+ *   - Every result cell is written: it holds 0 where the number is not 0, but for the steps and the position of a run, which a stopped run has too.
  *   - Its stack is bounded: recursion ends at VOSEMAQE_MAX_DEPTH. 64 KiB are room for every function and every table; docs/STACK.md has the figures.
  *
  * WHAT THE CALLER OWES

@@ -81,15 +81,14 @@ check "a destination among the parameters" 0 "words: int 3 in r0 after 1 step" s
 lines() { # TEXT COUNT: the text so many times
     awk -v text="$1" -v count="$2" 'BEGIN { while (count-- > 0) print text }'
 }
-{ echo "ref 0" && lines not 63 && echo "local true"; } >"$room/deep64"
-check "depth 64" 0 "tree:  false" $tool "$room/deep64"
-{ echo "ref 0" && lines not 64 && echo "local true"; } >"$room/deep65"
-check "depth 65" 1 "refused with 3: depth over 64" $tool "$room/deep65"
-check "depth 65, where" 1 "$room/deep65:65: node 64: its depth is 65" $tool "$room/deep65"
-lines nil 4097 >"$room/nodes4097"
-check "4097 nodes" 1 "refused with 1: table empty, not a multiple of 4 words, or over 4096 nodes" $tool "$room/nodes4097"
-lines nil 4096 >"$room/nodes4096"
-check "4096 nodes" 1 "$room/nodes4096:4096: the last node does not take in all nodes before it" $tool "$room/nodes4096"
+depth=$(sed -n 's/^#define VOSEMAQE_MAX_DEPTH //p' include/vosemaqe.h)
+{ echo "ref 0" && lines not $((depth - 1)) && echo "local true"; } >"$room/deep"
+check "the greatest depth" 0 "tree:  " $tool "$room/deep"
+{ echo "ref 0" && lines not "$depth" && echo "local true"; } >"$room/deeper"
+check "one more" 1 "refused with 3: depth over $depth" $tool "$room/deeper"
+check "one more, and where" 1 "$room/deeper:$((depth + 1)): node $depth: its depth is $((depth + 1))" $tool "$room/deeper"
+lines nil 4096 >"$room/nodes"
+check "4096 nodes" 1 "$room/nodes:4096: the last node does not take in all nodes before it" $tool "$room/nodes"
 # a balanced tree of 511 Lt over Refs: 2044 words, with positions of one to four digits
 balanced() { # LEVELS
     if [ "$1" -eq 0 ]; then echo "ref 0"; else balanced $(($1 - 1)) && balanced $(($1 - 1)) && echo lt; fi
