@@ -8,8 +8,8 @@
  *
  * WHAT EVERY FUNCTION PROMISES
  *
- *   - It returns a number: 0 for done, else why not (enum vosemaqe_number); only vosemaqe_complete, which refuses nothing, and vosemaqe_version do not. It
- *     returns on every input. Its time is bounded by the length of what it is lent; that of the machine by its budget.
+ *   - It returns on every input. It returns a number: 0 for done, else the reason (enum vosemaqe_number). Only vosemaqe_complete, which refuses nothing, and
+ *     vosemaqe_version do not. Its time is bounded by the lengths of what it is lent, and that of a run by its budget.
  *   - It reads and writes only what it is lent. It allocates nothing, keeps nothing, has no state, and calls nothing but memset. So any number of
  *     threads may call at once, each with buffers of its own; a buffer that is only read may be shared.
  *   - Every result cell is written: it holds 0 where the number is not 0, but for the steps and the position of a run, which a stopped run has too.
@@ -20,7 +20,7 @@
  *   - A pointer and its length describe memory that is the caller's, aligned for its type. A length counts elements, not bytes: a table of 6 nodes is lent
  *     as 24 words. Lengths, positions and counts are 64 bits wide. A pointer whose length is 0 is never followed: it may be null. A result cell is one
  *     uint64_t and is never null.
- *   - What is written may not overlap anything else that is lent to the same call, result cells included. What is only read may.
+ *   - A buffer or cell that is written must not overlap anything else that is lent to the same call. Buffers that are only read may overlap.
  *   - The processor's float control is as a process starts with it: rounding to nearest, subnormal numbers kept (no -ffast-math when linking).
  *
  * VALUES are lent as pairs, a kind byte and a 64-bit payload, in two arrays. Where the two have different lengths the shorter counts. A pair that
@@ -35,18 +35,18 @@
  * NODE TABLES are runs of 64-bit words, four to a node: kind, payload, first, depth. Nodes stand in post-order, the root last: the last child
  * of node i is i - 1, the child before it ends just before that one's `first`. `first` is the lowest node of the subtree; `depth` is 1 for a leaf,
  * else one more than the deepest child's. vosemaqe_complete fills in both. The payload is 0 but for an Int (two's complement), a Float (bits) and a Ref
- * (a register). The layout is `params` + `locals`, the base: a Ref, and a destination, is below it. `dest` is 0 for none, r + 1 for register r.
+ * (a register). The base is `params` + `locals`: a Ref and a destination name a register below it. `dest` is 0 for none, r + 1 for register r.
  *
- * WHAT AN EXPRESSION MEANS, evaluated or run: left before right; within one operation 20, 23, 22 or 24, 21.
+ * WHAT AN EXPRESSION MEANS, evaluated or run. Left comes before right. Where several faults fit one operation, the first of 20, 23, 22 or 24, 21 counts.
  *
  *   - ADD, SUB, MUL: two Ints give the exact Int, or 21; with a Float, an Int in -2^53..2^53 converts exactly and any other is 23. MINUS is MUL by Int -1.
- *     DIV converts both to Float. Floats as IEEE 754 says, to nearest, ties to even; a NaN that arithmetic yields is 0x7FF8000000000000.
- *   - MOD: Ints, the sign of the dividend, 22 for a zero divisor. BIT_AND, BIT_OR, BIT_XOR: Ints. LSHIFT: exact, or 21; RSHIFT rounds toward minus
- *     infinity; an amount outside 0..63 is 24.
- *   - LT, LE, GT, GE: numbers; a NaN is unordered. EQ, NE: any values; different kinds are unequal, but an Int and a Float are compared as
- *     numbers. An Int beside a Float is compared exactly, as the integer that it is with the number that the Float is: never 23, whatever their size. The
- *     infinities lie beyond every Int; a NaN is unordered and unequal; -0.0 is 0.
- *   - AND, OR, NOT and a TERNARY's test want a Bool (20), and skip what they need not evaluate.
+ *     DIV converts both to Float. Float results are rounded to nearest, ties to even, as IEEE 754 says; a NaN that arithmetic yields is 0x7FF8000000000000.
+ *   - MOD takes Ints; the result has the sign of the dividend; a zero divisor is 22. BIT_AND, BIT_OR, BIT_XOR take Ints. LSHIFT is exact, or 21; RSHIFT rounds
+ *     toward minus infinity; an amount outside 0..63 is 24.
+ *   - LT, LE, GT, GE take numbers; a NaN is unordered. EQ and NE take any values; different kinds are unequal, but an Int and a Float are compared as numbers.
+ *     All six compare an Int with a Float exactly, by the numbers that they are, whatever their size: never 23. The infinities lie beyond every Int; a NaN is
+ *     unordered and unequal; -0.0 is 0.
+ *   - AND, OR, NOT and the test of a TERNARY take a Bool; anything else is 20. Operands that need not be evaluated are skipped.
  *
  * RUNNING AGREES WITH EVALUATING. This is proved for every table that a compile accepts and for every value that its locals may hold. Lend to vosemaqe_run
  *

@@ -6,6 +6,7 @@
 # - a name in backticks is defined in the file beside it ("specs/File `name`", "`name` (crate specs/File)"), else in specs/, proofs/ or src/ of some crate.
 # In a table the columns decide, in a list the words before the colon: 'edit' for edits, the others for files and names.
 # Every document: a path is there, and so is a file of specs/ or proofs/ after the name of a crate.
+# docs/TRUST.md: its tables of lines are as tools/specs.sh counts them.
 set -euo pipefail
 cd "$(dirname "$0")/.."
 claims=docs/CLAIMS.md
@@ -157,3 +158,4 @@ awk -v index_file="$index" -v claims="$claims" '
         printf "claims: %d edits of the tree, %d places of the documents not as the tree is\n", nedits, wrong
         exit wrong > 0
     }' "$index" "$claims" README.md $(ls docs/*.md | grep -v -e CLAIMS -e '/0[12]-') tools/*.md tools/*/README.md
+tools/specs.sh check

@@ -1,8 +1,7 @@
 //! Safe calls of `libvosemaqe.a`, whose functions are proved: node tables are checked, compiled to instruction words, evaluated and run.
 //! `include/vosemaqe.h` says what each function gives on every input; here a number that is not 0 is an [`Error`].
 //!
-//! Nothing allocates, and nothing needs `std`. The caller lends slices, and a borrow is all that the library asks of them: lengths may be
-//! anything, contents too.
+//! Nothing allocates, and nothing needs `std`. The caller lends slices, of any length and with any contents: whatever is lent, each function answers.
 //!
 //! ```
 //! use vosemaqe::expr::local;
@@ -240,18 +239,18 @@ impl From<Stopped> for Error {
     }
 }
 
-/// 0 for none, r + 1 for register r. A register of 2^64 - 1 is over every limit, and so is the one before it.
+/// 0 for none, r + 1 for register r. Register 2^64 - 1 becomes the one before it, which is over every limit too.
 fn dest_of(dest: Option<u64>) -> u64 {
     dest.map_or(0, |r| r.saturating_add(1))
 }
 
-/// Whether a table would be compiled, given room: its number is the check's.
+/// Checks a table, its layout and its destination, as [`compile`] does first. A table that passes is refused only for want of registers, slots or words.
 pub fn check(nodes: &[u64], params: u64, locals: u64, dest: Option<u64>) -> Result<(), Error> {
     // SAFETY: the slice is valid for its length, and only read.
     done(unsafe { ffi::vosemaqe_check(nodes.as_ptr(), nodes.len(), params, locals, dest_of(dest)) })
 }
 
-/// Compiles a table into lent words and constants; what follows them is zeroed, all of it on a refusal. At most four words and one constant a node.
+/// Compiles a table into lent words and constants: at most four words and one constant a node. What follows them is zeroed; on a refusal all of it is.
 pub fn compile(
     nodes: &[u64],
     params: u64,
@@ -290,7 +289,7 @@ pub fn compile(
     })
 }
 
-/// The same with a lent jump list, at most half as many places as nodes, rounded up, which is left zero: `NoRoom` where it runs out.
+/// The same with a lent jump list. Half as many places as nodes, rounded up, are always enough; where it runs out the answer is `NoRoom`. It is left zero.
 ///
 /// ```
 /// # use vosemaqe::*;

@@ -1,5 +1,5 @@
-// The program behind ./vosemaqe: reads expressions as text, and shows the words of each and what the tree and the words answer.
-// Expressions stand in the files that are named, - being standard input; a line of three dashes stands between two of them.
+// The program behind ./vosemaqe: reads expressions as text, and shows the words of each and the values that the tree and the words give.
+// It reads the files that are named, and standard input for a file called -. A line of three dashes separates two expressions.
 mod gather;
 mod list;
 mod show;

@@ -1,4 +1,4 @@
-// An expression that could be read: its words, and what the tree and the words answer.
+// An expression that could be read: its words, and the values that the tree and the words give.
 use crate::list::list_words;
 use crate::trouble::say_at;
 use crate::why::say_where;
@@ -362,14 +362,14 @@ fn number_of(s: &[u8], nodes: &mut [u64], h: Head) -> u8 {
     n
 }
 
-// Where an expression begins, as the second line of a refusal that no node is to blame for.
+// Where an expression begins: the second line of a refusal that is about the whole of it.
 fn say_from(name: &[u8], line: u64) {
     say(b"  ");
     say_at(name, line);
     say(b"the expression that begins here\n");
 }
 
-// The number of the check, and where its fault is; of 1 and 5, the expression.
+// The number of the check, then the node at fault; for 1 and 5, where the expression begins.
 fn refuse(n: u8, name: &[u8], s: &[u8], line: u64, nodes: &[u64], h: Head) {
     say_refused(n);
     if faults::BAD_NODE <= n {

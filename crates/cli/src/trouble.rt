@@ -80,7 +80,7 @@ fn say_trouble(t: Trouble) {
           more than 1100 digits after the point\n\
           \n\
           a number is missing\n\
-          there is more on this line than is read\n\
+          more words than belong on this line\n\
           first and depth are given together, or not at all\n\
           a value is nil, true, false, int N or float X",
         line_of(t),
@@ -92,7 +92,7 @@ fn say_trouble(t: Trouble) {
     say(b"\n");
 }
 
-// What a line does not go with: the line of its message, and the number that the message has.
+// A line that contradicts those before it: which message it gets, and the number in that message.
 fn clash_line(c: Clash) -> u64 {
     match c {
         Clash::No => 0,
@@ -109,7 +109,7 @@ fn clash_number(c: Clash) -> u64 {
     }
 }
 
-// Whether a line does not go with those before it, which is told.
+// Whether a line contradicts those before it. If so, a message is written.
 fn say_clash(name: &[u8], l: &[u8], line: u64, c: Clash) -> bool {
     let n = clash_line(c);
     if n == 0 {
@@ -154,7 +154,7 @@ fn say_title(l: &[u8]) {
     say(b"\n");
 }
 
-// Whether a line is at fault. What is at fault is told; a title is written.
+// Whether a line is at fault. If so, a message is written; a title is written too.
 pub fn say_line(name: &[u8], l: &[u8], h: Head, r: Line) -> bool {
     match r {
         Line::Wrong(t, n) => {

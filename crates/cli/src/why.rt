@@ -1,4 +1,4 @@
-// Where the fault is that the check of a table found, and what is at fault there.
+// Where in the text the fault lies that the check of a table found, and what is wrong there.
 ghost use Prim.Native.Nat.{_≤_};
 ghost use lib.ListN.{length};
 use crate::trouble::say_at;
@@ -41,9 +41,9 @@ fn say_seen(s: Seen, base: u64) {
     tell_line(
         b"nothing is at fault there\n\
           no kind has the number %\n\
-          kind % has no payload, and here it is %\n\
+          a node of kind % has no payload, but here it is %\n\
           a child is missing: too few nodes stand before it\n\
-          first % and depth % are given, and its children give % and %\n\
+          first % and depth % are given, but should be % and %\n\
           its depth is %\n\
           register % is not below the base, %\n\
           a Float that is not finite",
