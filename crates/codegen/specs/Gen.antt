@@ -109,7 +109,7 @@ abbrev pub pickedB : Picked Value → (ℕ → State → Res (List ℕ × State)
 pickedB (one a how) both = oneB how a
 pickedB two both = both
 
--- a comparison of a and b, whose literals of 16 bits are left and right, if they are such
+-- a comparison of a and b; left and right are their 16-bit literals, where they are literals
 unfoldable pub compareB : Cmp → Imm → Imm → Value → Value → Branch
 compareB c left right a b sense room s =
     pickedB (comparePick c a b left right sense) (pairB (branchOf c sense) a b) room s

@@ -1,4 +1,4 @@
--- Plumbing: what Read is for values, for branches. A branch answers how many jumps stand at the front of the lent jump list (`Jumps`); the definition
+-- Plumbing: for branches what Read is for values. A branch answers how many jumps stand at the front of the lent jump list (`Jumps`); the definition
 -- gives the list of their positions.
 use mathlib.Core.Path.{_≡_}
 use mathlib.Core.Bool.{Bool, cond}

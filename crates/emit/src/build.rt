@@ -1,4 +1,4 @@
-// The words that the generator makes, field by field: a decoded instruction on the way would be handed over through memory. A branch is made with the
+// The words that the generator makes, field by field: going through a decoded instruction would cost a copy in memory. A branch is made with the
 // displacement 0, which is filled in when the jump is patched to its target, so its word is that of its other operands.
 use insns::Insn;
 use insns::Made;

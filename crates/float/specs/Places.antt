@@ -1,4 +1,4 @@
--- Plumbing: the same rule for an Int beyond 2^53, without fractions or numbers of 128 bits. proofs/standing/Wide shows that it is `standing`.
+-- Plumbing: the rule of specs/Standing for an Int beyond 2^53, without fractions or numbers of 128 bits. proofs/standing/Wide shows that it is `standing`.
 use Prim.Native.Nat.{ℕ, _+_, _-_, _*_, _/_, _%_, _^_}
 use mathlib.Core.Bool.{Bool, cond}
 use lib.Dec.{ltb, leb}

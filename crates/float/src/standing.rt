@@ -1,5 +1,5 @@
 // An Int beside a Float, compared as the numbers that they are. Rounding the Int to a Float would be wrong from 2^53 + 1 on, and cutting the Float to
-// an Int would lose its fraction and every Float from 2^63 on; so an Int that is no Float is held to the place that the Float has among the Ints.
+// an Int would lose its fraction and every Float from 2^63 on; so an Int beyond 2^53 is compared with the place that the Float has among such Ints.
 ghost use mathlib.Core.Path.{_≡_};
 ghost use Prim.Native.Nat.{_<_, _≤_, _^_};
 ghost use lib.IntN.{natAbs};

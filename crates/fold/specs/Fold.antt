@@ -100,7 +100,7 @@ tailOp (Tail.Shift o k) d a = Op.Shift o d a k
 tailOp (Tail.Mask lo len) d a = Op.BitAndMask d a lo len
 tailOp (Tail.ShiftMask k lo len) d a = Op.RshiftMask d a k lo len
 
--- whether that register holds the left operand of the shift on the left, and not the left operand itself
+-- whether that register holds what the shift on the left shifts, and not the shifted value
 abbrev pub takesShift : Tail → Bool
 takesShift Tail.Not = false
 takesShift (Tail.Imm o n) = false

@@ -1,5 +1,5 @@
-// The instruction of an operator, by the number of its kind: that of two registers, or the branch of a comparison. A caller asks only for kinds of
-// that sort, so what any other kind gives is not said (docs/OPEN.md).
+// The instruction of an operator, by the number of its kind: that of two registers, or the branch of a comparison. Callers ask only for such
+// kinds; what any other kind gives is left open (docs/OPEN.md).
 use insns::op::Cmp;
 use insns::op::Three;
 ghost use mathlib.Core.Path.{_≡_};

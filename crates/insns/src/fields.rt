@@ -1,6 +1,6 @@
 // The fields of a word. A field has a size, 2 to the power of its width, and bits below that size; it is given here as the two numbers.
-// An operand that is silently truncated gives a wrong instruction rather than a failure, so every operand is tested. A signed one that its field
-// does not hold has, for its bits, a number past the field: one test serves every kind of field.
+// An operand that is silently truncated gives a wrong instruction rather than a failure, so every operand is tested. A signed operand that
+// does not fit is given bits past the field, so that one test serves every kind of field.
 use crate::Insn;
 use crate::Made;
 use crate::bits::is_raw;

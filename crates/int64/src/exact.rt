@@ -1,4 +1,4 @@
-// Sum, difference and product of two patterns, and whether 64 bits hold them. Test and pattern are two plain numbers: an enum between the two would cost more.
+// Sum, difference and product of two patterns, and whether 64 bits hold them. The test and the pattern are plain numbers: an enum of both would cost more.
 ghost use mathlib.Core.Path.{_≡_};
 ghost use Prim.Native.Nat.{_*_};
 ghost use mir.Syntax.{w64};

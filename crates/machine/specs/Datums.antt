@@ -1,5 +1,5 @@
 -- Plumbing: the same machine over a list of values in place of kinds and payloads, which is what the crate `claim` reasons about.
--- proofs/Lends shows that the lent one does as it does.
+-- proofs/Lends shows that the machine over lent pairs does the same.
 use Prim.Native.Nat.{ℕ, zero, suc}
 use mathlib.Core.Bool.{cond}
 use mathlib.Core.List.{List}

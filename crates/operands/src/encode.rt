@@ -1,5 +1,5 @@
 // From an opcode and five operands to a word: the fields of a form, and the bits of an operand in its field. A signed operand is the two's
-// complement pattern of 64 bits; an operand that a form does not have has to be 0, so that only what decoding gives encodes.
+// complement pattern of 64 bits; an operand that a form lacks has to be 0, so that nothing encodes but what decoding gives.
 use decode::form::form;
 use insns::Made;
 use insns::bits::signed_bits;

@@ -81,7 +81,7 @@ fn text_at(table: &[u8], by: u8, n: u64) -> Part
     }
 }
 
-// A write that fails is not told: the command checks what arrives.
+// A failed write is not reported here: the command checks what arrives.
 pub fn say(words: &[u8]) {
     let _ = io::write_all(1, words);
 }

@@ -1,5 +1,5 @@
-// The lines of an expression, one after the other. A line is read anew by whoever wants something of it: its nodes, its values,
-// the first and depth that it gives. So every loop here lends what it fills and no more.
+// The lines of an expression, one after the other. Each loop reads all lines again and fills one kind of buffer: nodes, the first and depth that are
+// given, or values. A loop that held several buffers would cost far more to prove.
 ghost use mathlib.Core.Path.{_≡_};
 ghost use Prim.Native.Nat.{_+_, _<_, _≤_, min};
 ghost use lib.ListN.{length};

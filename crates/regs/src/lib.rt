@@ -1,5 +1,5 @@
 // The register counter of a frame, a port of the Rust's `Regs`. It is lent and changed in place by three thin methods, `alloc_n`, `free_to` and
-// `alloc_from`; what each makes of the counter is worked out by value, in the method before it.
+// `alloc_from`. Before each of them stands a function that computes the new counter by value.
 ghost use mathlib.Core.Path.{_≡_};
 ghost use Prim.Native.Nat.{_+_, max};
 ghost use Rattle.regs.specs.Counter.{fresh, endFault, allocated, freed, extended, numberOf};

@@ -61,7 +61,7 @@ kindFault k p =
     or-else fault (not (eqb p 0) && not (leb 3 k && leb k 5)) badNode
     or-else fault (eqb k 4 && not (isFinite p)) badNode
 
--- the n children whose last one ends just before position e: one is missing, or they begin at a lowest node and have a greatest depth, d or more
+-- the n children of which the last ends just before position e: that one is missing, or their lowest node and the greatest of d and their depths
 unfoldable pub children : List ℕ → ℕ → ℕ → ℕ → Span
 children ws zero e d = Between e d
 children ws (suc n) zero d = Missing

@@ -1,4 +1,4 @@
-// The check of a node table: one pass, from node 0 upward, in which a node looks at its children's records alone.
+// The check of a node table: one pass, from node 0 upward, in which a node is compared with its children alone.
 use crate::Dest;
 use crate::children::Span;
 use crate::children::arity_of;

@@ -24,7 +24,7 @@ unfoldable pub push : ℕ → List (List ℕ) → List (List ℕ)
 push b [] = (b ∷ []) ∷ []
 push b (f ∷ fs) = (b ∷ f) ∷ fs
 
--- b, which is not blank, in front of s, whose fields are fs: a field by itself where a blank follows, or nothing
+-- the fields of b and s together, where b is not blank and fs are the fields of s: before a blank, or at the end, b is a field by itself
 unfoldable pub opened : ℕ → List ℕ → List (List ℕ) → List (List ℕ)
 unfolding push
 opened b [] fs = (b ∷ []) ∷ fs

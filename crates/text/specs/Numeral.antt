@@ -1,4 +1,4 @@
--- Numbers as text. A text is a list of bytes. Assumes nothing: these are definitions.
+-- Numbers as text. A text is a list of bytes.
 use Prim.Native.Nat.{ℕ, _+_, _-_, _*_, _^_}
 use mathlib.Core.Bool.{Bool, _&&_, cond}
 use mathlib.Core.List.{List, [], _∷_}

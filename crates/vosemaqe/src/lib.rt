@@ -1,5 +1,5 @@
-// The library for C and Rust callers. Each function calls the routine of its name and hands on what that answers as numbers: the number of the
-// answer is returned, results are left in the caller's cells. include/vosemaqe.h is the manual.
+// The library for C and Rust callers. Each function calls the routine of its name, returns the number of the answer and leaves the
+// results in the caller's cells. include/vosemaqe.h is the manual.
 mod results;
 
 ghost use mathlib.Core.Path.{_≡_};
