@@ -89,7 +89,7 @@ fn put(
             payloads[d] = payload_of(v);
             Stepped::Moved(at + 1)
         }
-        Answer::Fault(n) => Stepped::Stopped(n),
+        Answer::Fault(f) => Stepped::Stopped(f),
     }
 }
 
