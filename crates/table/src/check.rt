@@ -72,7 +72,7 @@ fn limit_fault(k: u64, p: u64, d: u64, base: u64) -> u8
     )
 }
 
-// The fault of node i by all the rules, whose predecessors have none.
+// The fault of node i, whose predecessors have none, by all the rules in their order.
 fn full_fault(nodes: &[u64], base: u64, i: usize) -> u8
     requires { ⌜ i < nodeCount (now nodes) ⌝ }
     requires { ⌜ Below (now nodes) i ⌝ }
@@ -109,8 +109,8 @@ fn pick_place(t: bool, a: usize, b: usize) -> usize
     if t { a } else { b }
 }
 
-// Whether a leaf's payload is one that its kind may have, by one comparison for all kinds: a Ref's is below the base, any other's below 1, where nothing
-// counts of an Int's, and of a Float's only whether it is finite.
+// Whether a leaf's payload is one that its kind may have. One comparison for all six kinds, so that no jump depends on the kind: a Ref's payload is held
+// to the base; of any other what counts has to be 0, and that is nothing of an Int's, and of a Float's whether it is finite.
 fn payload_right(k: u64, p: u64, base: u64) -> bool
     requires { ⌜ k ≤ 5 ⌝ }
     ensures { λ r. ⌜ PayloadRight k p base r ⌝ }
@@ -127,7 +127,8 @@ fn leaf_right(nodes: &[u64], base: u64, i: usize, k: u64) -> bool
     requires { ⌜ k ≤ 5 ⌝ }
     ensures { λ r. ⌜ Right (now (nodes .entry)) base i r ⌝ }
 {
-    if crate::first_at(nodes, i) != i {
+    let f = crate::first_at(nodes, i);
+    if f != i {
         return false;
     }
     if crate::depth_at(nodes, i) != 1 {
@@ -136,7 +137,7 @@ fn leaf_right(nodes: &[u64], base: u64, i: usize, k: u64) -> bool
     payload_right(k, crate::payload_at(nodes, i), base)
 }
 
-// Whether node i is right of whose children the first, which ends before e, is still to be looked at; the others have the greatest depth g.
+// Whether node i is right, whose children have all been looked at but the first: that one ends just before e, and the deepest of the others has depth g.
 fn over_right(nodes: &[u64], base: u64, i: usize, e: usize, g: u64) -> bool
     requires { ⌜ Over (now nodes) base i e g ⌝ }
     ensures { λ r. ⌜ Right (now (nodes .entry)) base i r ⌝ }
@@ -157,7 +158,7 @@ fn over_right(nodes: &[u64], base: u64, i: usize, e: usize, g: u64) -> bool
     crate::payload_at(nodes, i) == 0
 }
 
-// Whether the Ternary i is right: with the child before the last looked at, its first child is left.
+// Whether the Ternary i is right: the child before the last is looked at here, and the first one is left.
 fn three_right(nodes: &[u64], base: u64, i: usize, e: usize, g: u64) -> bool
     requires { ⌜ Passed (now nodes) base i e g ⌝ }
     requires { ⌜ kindAt (now nodes) i ≡ 26 ⌝ }
@@ -170,7 +171,8 @@ fn three_right(nodes: &[u64], base: u64, i: usize, e: usize, g: u64) -> bool
     over_right(nodes, base, i, f, greater(g, crate::depth_at(nodes, e - 1)))
 }
 
-// Whether node i is right: the node before it, its last child if it has any, has the first e and the depth g.
+// Whether node i is right: few tests, by the number of its children. Node i - 1, its last child if it has any, has the first e and the depth g. Minus and
+// Not have no other child, so that their first child is their last one; a choice of its end, and no jump, tells them from the operators with two.
 fn node_right(nodes: &[u64], base: u64, i: usize, e: usize, g: u64) -> bool
     requires { ⌜ Passed (now nodes) base i e g ⌝ }
     ensures { λ r. ⌜ Right (now (nodes .entry)) base i r ⌝ }
@@ -188,7 +190,7 @@ fn node_right(nodes: &[u64], base: u64, i: usize, e: usize, g: u64) -> bool
     three_right(nodes, base, i, e, g)
 }
 
-// The fault of node i. Nearly every node is right, which few tests show; the number of one that is not takes all the rules.
+// The fault of node i. Few tests show that a node is right; one that is not gets its number from all the rules, and ends the check.
 fn node_fault(nodes: &[u64], base: u64, i: usize, e: usize, g: u64) -> u8
     requires { ⌜ Passed (now nodes) base i e g ⌝ }
     ensures { λ r. ⌜ r ≡ nodeFault (now (nodes .entry)) base i ⌝ }
@@ -199,7 +201,7 @@ fn node_fault(nodes: &[u64], base: u64, i: usize, e: usize, g: u64) -> u8
     full_fault(nodes, base, i)
 }
 
-// The first fault of the nodes, from 0 upward. The last node's first and depth are kept for the next, which may be over it.
+// The first fault of the nodes, from 0 upward. A node's first and depth are kept for the next one, which may be its parent.
 fn nodes_fault(nodes: &[u64], base: u64) -> u8
     ensures { λ r. ⌜ r ≡ nodesFault (now (nodes .entry)) base (nodeCount (now (nodes .entry))) ⌝ }
 {
