@@ -3,7 +3,6 @@ use mathlib.Core.Path.{_≡_, refl, sym, _∙_, ap}
 use mathlib.Core.Bool.{Bool, true, false, not, cond, _&&_, false≢true}
 use mathlib.Core.List.{List}
 use Prim.Native.Nat.{ℕ, zero, suc, _+_, _-_, _≤_, _<_, max}
-use native.Mathlib.Numerals.{add-one}
 use native.Mathlib.Omega.{arith}
 use lib.Dec.{leb, ltb, eqb}
 use lib.ListN.{getD}
@@ -13,10 +12,10 @@ use borrow.Author.Tests.{ltb-true, leb-true, leb-false, eqb-true, le-ltb, lt-leb
 use Rattle.faults.specs.Faults.{fault, _or-else_}
 use Rattle.faults.specs.Limits.{maxDepth}
 use Rattle.float.specs.Bits.{isFinite}
-use Rattle.table.specs.Table.{nodeCount, kindAt, payloadAt, firstAt, depthAt, arity, kindFault, children, spanAt, spanFault, limitFault, nodeFault, nodesFault}
+use Rattle.table.specs.Table.{nodeCount, kindAt, payloadAt, firstAt, depthAt, kindFault, children, spanAt, spanFault, limitFault, nodeFault, nodesFault}
 use Rattle.table.specs.Nodes.{Below, Last, Passed, Over, Right, PayloadRight}
 use Rattle.table.specs.declared.children.Span.{Span}
-use Rattle.table.specs.declared.children.Span.the-variants.{Missing, Between}
+use Rattle.table.specs.declared.children.Span.the-variants.{Between}
 use Rattle.faults.proofs.Faults.{second}
 use Rattle.table.proofs.Nodes.{turn, turn-missing, turn-none, all-ok, first-le, below-of, no-fault}
 use Rattle.table.proofs.Arities.{arity-0, arity-1, arity-2, arity-3}
@@ -132,8 +131,8 @@ over-is ws base i {e} {g} {f} {x} {d} {h} {m} {p} o n hf hx ef hd hh hm ed s hp 
           (limit-none (kindAt ws i) (payloadAt ws i) (depthAt ws i) base t (λ q. absurd (let k = o .inner in omega arith)));
     }
 
-pub over-fits : {ws : List ℕ} {base i e g h m : ℕ} → Over ws base i e g → (e ≡ 0 → ⊥) → h ≡ depthAt ws (e - 1) → m ≡ max g h → Fits w64 (m + 1)
-over-fits {ws} {base} {i} {e} {g} o n hh hm =
+pub over-fits : {ws : List ℕ} {base i e g h m : ℕ} (one : ℕ) → Over ws base i e g → (e ≡ 0 → ⊥) → h ≡ depthAt ws (e - 1) → m ≡ max g h → one ≤ 1 → Fits w64 (m + one)
+over-fits {ws} {base} {i} {e} {g} one o n hh hm k =
     let l = o .low in
     let s = o .shallow in
     let t = all-ok ws base i (o .none) (e - 1) (omega arith) .shallow in
