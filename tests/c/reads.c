@@ -1,7 +1,8 @@
 /* How often the check reads each word of a table. `reads` calls it on tables of several shapes and says where they stand; it is run under valgrind's lackey,
  * whose trace has every load. `reads judge WHERE TRACE` counts the loads of each word between a call's begin and its end, and fails where there are more than
- * one pass takes: a node's kind and payload are read once, in its turn; its first and depth in its turn and by its parent; so no word of an accepted table
- * more than twice, and at most 6 words a node. A fault is looked into once more, with all the rules: the words of that node and of its children. */
+ * one pass takes. A node's four words are read in its turn; its first and depth once more by its parent, unless they are still at hand, as the last child's
+ * are where there is another. So no word of an accepted table is read more than twice. A fault is looked into once more, with all the rules: the words of that
+ * node and of its children. */
 #include "vosemaqe.h"
 #include <inttypes.h>
 #include <stdio.h>
@@ -15,15 +16,21 @@ static volatile uint64_t begin_mark, end_mark;
 
 static void node(uint64_t kind) { uint64_t *n = T + 4 * N++; n[0] = kind; n[1] = 0; }
 
-/* one call, and a line that says so: words, nodes, the number that is wanted */
+/* the words that are read of other nodes: two of an only child, of the first of two, of the first two of three */
+static size_t of_children(void) {
+    size_t words = 0;
+    for (size_t i = 0; i < N; i++) words += T[4 * i] == VOSEMAQE_NODE_TERNARY ? 4 : T[4 * i] > VOSEMAQE_NODE_REF ? 2 : 0;
+    return words;
+}
+/* one call, and a line that says so: nodes, the words to be read, the number that is wanted */
 static void call(uint8_t want) {
     begin_mark = N;
     uint8_t got = vosemaqe_check(T, 4 * N, 0, 0, 0);
     end_mark = N;
     if (got != want) { fprintf(stderr, "reads: %d, not %d\n", got, want); exit(1); }
-    printf("%zu %d\n", N, want);
+    printf("%zu %zu %d\n", N, 4 * N + of_children() + 1, want); /* and the last node's first, at the end */
 }
-/* the table as it is, then with a wrong depth at its last node, then in its middle, and with its last child missing */
+/* the table as it is, then with a wrong depth at its last node, then in its middle */
 static void calls(void) {
     vosemaqe_complete(T, 4 * N);
     call(0);
@@ -80,9 +87,9 @@ static int judge(const char *where, const char *trace) {
             for (uintptr_t b = at < table ? table : at; b < at + bytes && b < table + sizeof T; b = (b / 8 + 1) * 8) reads[(b - table) / 8]++;
         if (what != 'S' || at != end || !within) continue;
         within = 0;
-        size_t n;
+        size_t n, most;
         int number;
-        if (fscanf(w, "%zu %d", &n, &number) != 2) { fprintf(stderr, "reads: more calls than lines\n"); return 1; }
+        if (fscanf(w, "%zu %zu %d", &n, &most, &number) != 3) { fprintf(stderr, "reads: more calls than lines\n"); return 1; }
         unsigned total = 0, once = number ? 2 : 1, often = number ? 3 : 2;
         for (size_t i = 0; i < 4 * n; i++) {
             total += reads[i];
@@ -91,14 +98,13 @@ static int judge(const char *where, const char *trace) {
                 return 1;
             }
         }
-        /* 4 in its turn and 2 by its parent; at a fault once more 4, and 2 for each of 3 children */
-        if (total > 6 * n + (number ? 10 : 0)) { fprintf(stderr, "reads: %u words read in a table of %zu nodes, number %d\n", total, n, number); return 1; }
+        /* at a fault once more 4, and 2 for each of 3 children */
+        if (total > most + (number ? 10 : 0)) { fprintf(stderr, "reads: %u words read in a table of %zu nodes, number %d\n", total, n, number); return 1; }
         if (!number) { all += total; nodes += n; }
         checked++;
     }
-    size_t n;
-    int number;
-    if (checked == 0 || fscanf(w, "%zu %d", &n, &number) == 2) { fprintf(stderr, "reads: %d calls traced, and more were made\n", checked); return 1; }
+    size_t more;
+    if (checked == 0 || fscanf(w, "%zu", &more) == 1) { fprintf(stderr, "reads: %d calls traced, and more were made\n", checked); return 1; }
     printf("reads: %d checks; of an accepted table no word is read more than twice, %.2f words a node\n", checked, (double)all / (double)nodes);
     return 0;
 }
