@@ -1,8 +1,8 @@
 #!/usr/bin/env bash
 # Everything that is run against the archive: tests/boundary.sh [fuzz calls, 200000] [ARCHIVE]. Builds and proves the archive if none is given;
-# the C program on document 01's samples, the installed package from C and Rust, the examples and tests of the Rust crate, hostile calls, some of them under
-# valgrind where there is one, the comparison with the Rust on 20,000 random jobs (tools/large.sh by itself runs 300,000), and the stack that the functions
-# touch. Beside the archive, the routines that it does not have (tests/entries.sh).
+# the C program on document 01's samples, how often the check reads each word of a table, the installed package from C and Rust, the examples and tests of
+# the Rust crate, hostile calls, some of them under valgrind where there is one, the comparison with the Rust on 20,000 random jobs (tools/large.sh by
+# itself runs 300,000), and the stack that the functions touch. Beside the archive, the routines that it does not have (tests/entries.sh).
 set -euo pipefail
 cd "$(dirname "$0")/.."
 [ $# -gt 1 ] || rt staticlib vosemaqe >/dev/null
@@ -10,6 +10,7 @@ archive=$(realpath "${2:-target/staticlib/libvosemaqe.a}")
 tests/entries.sh
 tests/c/run.sh "$archive"
 [ "$(uname -m)" = x86_64 ] || { echo "boundary: the rest links the archive natively, on x86-64 alone"; exit 0; }
+tests/c/reads.sh "$archive"
 export VOSEMAQE_LIB=${archive%/*}
 mkdir -p bindings/rust/target
 # the comparison with the Rust beside the rest: each has a core

@@ -267,6 +267,9 @@ int main(void) {
     /* the table's other refusals; nothing lent at all */
     ref(0); EXPECT(vosemaqe_check(T, 3, 1, 0, 0) == VOSEMAQE_BAD_SHAPE && vosemaqe_check(NULL, 0, 1, 0, 0) == VOSEMAQE_BAD_SHAPE && vosemaqe_check(T, 4, 0, 0, 0) == VOSEMAQE_NOT_LOCAL);
     T[0] = 27; EXPECT(compiles(1, 0) == VOSEMAQE_BAD_NODE);
+    /* nothing but leaves: each is right, and the last is no root */
+    while (N < VOSEMAQE_MAX_NODES) leaf(VOSEMAQE_NODE_NIL, 0);
+    EXPECT(vosemaqe_check(T, 4 * N, 0, 0, 0) == VOSEMAQE_BAD_NODE); N = 0;
     uint64_t a = 9, b = 9, c = 9, d = 9;
     EXPECT(vosemaqe_compile(NULL, 0, 0, 0, 0, NULL, 0, NULL, 0, NULL, 0, &a, &b, &c, &d) == VOSEMAQE_BAD_SHAPE && !(a | b | c | d));
     EXPECT(vosemaqe_run(NULL, 0, 0, NULL, 0, NULL, 0, NULL, 0, NULL, 0, 0, &a, &b) == 0 && !(a | b));

@@ -2,6 +2,7 @@
 pub mod Parts
 pub mod Nodes
 pub mod Arities
+pub mod Rights
 pub mod Trees
 pub mod Held
 pub mod Whole

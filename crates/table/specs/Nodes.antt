@@ -1,8 +1,11 @@
 -- Plumbing: what functions over a table ask of a node and say of its children. It adds nothing to what 01 says of a table.
-use Prim.Native.Nat.{ℕ, _≤_, _<_, _^_}
+use Prim.Native.Nat.{ℕ, _-_, _≤_, _<_, _^_}
 use mathlib.Core.Path.{_≡_}
+use mathlib.Core.Bool.{Bool, true}
 use mathlib.Core.List.{List}
-use Rattle.table.specs.Table.{nodeCount, kindAt, firstAt, depthAt, nodesFault}
+use lib.ListN.{getD}
+use Rattle.faults.specs.Limits.{maxDepth}
+use Rattle.table.specs.Table.{nodeCount, kindAt, firstAt, depthAt, spanAt, children, kindFault, nodeFault, nodesFault}
 use Rattle.table.specs.Complete.{spanDepth}
 use Rattle.table.specs.declared.children.Span.{Span}
 
@@ -36,3 +39,35 @@ pub record Below (ws : List ℕ) (i : ℕ) : Type 0 where
 -- 64 bits hold the depth
 pub record Shallow (s : Span) : Type 0 where
   pub fits : spanDepth s < 2 ^ 64
+
+-- the node before i, where there is one, has the first e and the depth g
+pub record Last (ws : List ℕ) (i e g : ℕ) : Type 0 where
+  pub first : 0 < i → e ≡ firstAt ws (i - 1)
+  pub depth : 0 < i → g ≡ depthAt ws (i - 1)
+  pub low : e ≤ i
+  pub shallow : g ≤ maxDepth
+
+-- the same, and no node below i has a fault
+pub record Passed (ws : List ℕ) (base i e g : ℕ) : Type 0 where
+  pub inside : i < nodeCount ws
+  pub none : nodesFault ws base i ≡ 0
+  pub last : Last ws i e g
+
+-- of node i's children the first is still to be looked at, which ends just before e; the others have the greatest depth g
+pub record Over (ws : List ℕ) (base i e g : ℕ) : Type 0 where
+  pub inside : i < nodeCount ws
+  pub none : nodesFault ws base i ≡ 0
+  pub inner : 5 < kindAt ws i
+  pub known : kindAt ws i ≤ 26
+  pub spans : spanAt ws i ≡ children ws 1 e g
+  pub low : e ≤ i
+  pub shallow : g ≤ maxDepth
+
+-- where r is true, node i has no fault
+pub record Right (ws : List ℕ) (base i : ℕ) (r : Bool) : Type 0 where
+  pub none : r ≡ true → nodeFault ws base i ≡ 0
+
+-- where r is true, a leaf of kind k may have the payload p
+pub record PayloadRight (k p base : ℕ) (r : Bool) : Type 0 where
+  pub known : r ≡ true → kindFault k p ≡ 0
+  pub refers : r ≡ true → k ≡ 5 → p < base

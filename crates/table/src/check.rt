@@ -3,12 +3,14 @@ use crate::Dest;
 use crate::children::Span;
 use crate::children::arity_of;
 use crate::children::children_of;
+use crate::children::greater;
 ghost use mathlib.Core.Path.{_≡_};
-ghost use Prim.Native.Nat.{_<_};
+ghost use Prim.Native.Nat.{_≤_, _<_};
+ghost use mathlib.Core.Bool.{cond};
 ghost use Rattle.faults.specs.Faults.{fault, _or-else_};
-ghost use Rattle.table.specs.Table.{nodeCount, kindFault, limitFault, spanFault, nodeFault, nodesFault};
+ghost use Rattle.table.specs.Table.{nodeCount, kindAt, kindFault, limitFault, spanFault, nodeFault, nodesFault};
 ghost use Rattle.table.specs.Table.{shapeFault, layoutFault, destFault, lastFault, checkOf};
-ghost use Rattle.table.specs.Nodes.{Below};
+ghost use Rattle.table.specs.Nodes.{Below, Right, PayloadRight, Over, Passed};
 
 // The number of the first of two tests that holds, else none.
 fn either(a: bool, n: u8, b: bool, m: u8) -> u8
@@ -70,8 +72,8 @@ fn limit_fault(k: u64, p: u64, d: u64, base: u64) -> u8
     )
 }
 
-// The fault of node i, whose predecessors have none.
-fn node_fault(nodes: &[u64], base: u64, i: usize) -> u8
+// The fault of node i, whose predecessors have none, by all the rules in their order.
+fn full_fault(nodes: &[u64], base: u64, i: usize) -> u8
     requires { ⌜ i < nodeCount (now nodes) ⌝ }
     requires { ⌜ Below (now nodes) i ⌝ }
     ensures { λ r. ⌜ r ≡ nodeFault (now (nodes .entry)) base i ⌝ }
@@ -94,17 +96,126 @@ fn node_fault(nodes: &[u64], base: u64, i: usize) -> u8
     limit_fault(k, p, d, base)
 }
 
-// The first fault of the nodes, from 0 upward.
+// A choice of two numbers that are both at hand: no jump depends on it.
+fn pick(t: bool, a: u64, b: u64) -> u64
+    ensures { λ r. ⌜ r ≡ cond t a b ⌝ }
+{
+    if t { a } else { b }
+}
+
+fn pick_place(t: bool, a: usize, b: usize) -> usize
+    ensures { λ r. ⌜ r ≡ cond t a b ⌝ }
+{
+    if t { a } else { b }
+}
+
+// Whether a leaf's payload is one that its kind may have. One comparison for all six kinds, so that no jump depends on the kind: a Ref's payload is held
+// to the base; of any other what counts has to be 0, and that is nothing of an Int's, and of a Float's whether it is finite.
+fn payload_right(k: u64, p: u64, base: u64) -> bool
+    requires { ⌜ k ≤ 5 ⌝ }
+    ensures { λ r. ⌜ PayloadRight k p base r ⌝ }
+{
+    let float = pick(float::bits::is_finite(p), 0, 1);
+    let seen = pick(k == crate::FLOAT, float, pick(k == crate::INT, 0, p));
+    seen < pick(k == crate::REF, base, 1)
+}
+
+// Whether the leaf i is right: it is its own subtree.
+fn leaf_right(nodes: &[u64], base: u64, i: usize, k: u64) -> bool
+    requires { ⌜ i < nodeCount (now nodes) ⌝ }
+    requires { ⌜ k ≡ kindAt (now nodes) i ⌝ }
+    requires { ⌜ k ≤ 5 ⌝ }
+    ensures { λ r. ⌜ Right (now (nodes .entry)) base i r ⌝ }
+{
+    let f = crate::first_at(nodes, i);
+    if f != i {
+        return false;
+    }
+    if crate::depth_at(nodes, i) != 1 {
+        return false;
+    }
+    payload_right(k, crate::payload_at(nodes, i), base)
+}
+
+// Whether node i is right, whose children have all been looked at but the first: that one ends just before e, and the deepest of the others has depth g.
+fn over_right(nodes: &[u64], base: u64, i: usize, e: usize, g: u64) -> bool
+    requires { ⌜ Over (now nodes) base i e g ⌝ }
+    ensures { λ r. ⌜ Right (now (nodes .entry)) base i r ⌝ }
+{
+    if e == 0 {
+        return false;
+    }
+    if crate::first_at(nodes, i) != crate::first_at(nodes, e - 1) {
+        return false;
+    }
+    let d = crate::depth_at(nodes, i);
+    if d != greater(g, crate::depth_at(nodes, e - 1)) + 1 {
+        return false;
+    }
+    if faults::MAX_DEPTH < d {
+        return false;
+    }
+    crate::payload_at(nodes, i) == 0
+}
+
+// Whether the Ternary i is right: the child before the last is looked at here, and the first one is left.
+fn three_right(nodes: &[u64], base: u64, i: usize, e: usize, g: u64) -> bool
+    requires { ⌜ Passed (now nodes) base i e g ⌝ }
+    requires { ⌜ kindAt (now nodes) i ≡ 26 ⌝ }
+    ensures { λ r. ⌜ Right (now (nodes .entry)) base i r ⌝ }
+{
+    if e == 0 {
+        return false;
+    }
+    let f = crate::first_at(nodes, e - 1);
+    over_right(nodes, base, i, f, greater(g, crate::depth_at(nodes, e - 1)))
+}
+
+// Whether node i is right: few tests, by the number of its children. Node i - 1, its last child if it has any, has the first e and the depth g. Minus and
+// Not have no other child, so that their first child is their last one; a choice of its end, and no jump, tells them from the operators with two.
+fn node_right(nodes: &[u64], base: u64, i: usize, e: usize, g: u64) -> bool
+    requires { ⌜ Passed (now nodes) base i e g ⌝ }
+    ensures { λ r. ⌜ Right (now (nodes .entry)) base i r ⌝ }
+{
+    let k = crate::kind_at(nodes, i);
+    if k <= crate::REF {
+        return leaf_right(nodes, base, i, k);
+    }
+    if k <= crate::OR {
+        return over_right(nodes, base, i, pick_place(k <= crate::NOT, i, e), g);
+    }
+    if k != crate::TERNARY {
+        return false;
+    }
+    three_right(nodes, base, i, e, g)
+}
+
+// The fault of node i. Few tests show that a node is right; one that is not gets its number from all the rules, and ends the check.
+fn node_fault(nodes: &[u64], base: u64, i: usize, e: usize, g: u64) -> u8
+    requires { ⌜ Passed (now nodes) base i e g ⌝ }
+    ensures { λ r. ⌜ r ≡ nodeFault (now (nodes .entry)) base i ⌝ }
+{
+    if node_right(nodes, base, i, e, g) {
+        return faults::NONE;
+    }
+    full_fault(nodes, base, i)
+}
+
+// The first fault of the nodes, from 0 upward. A node's first and depth are kept for the next one, which may be its parent.
 fn nodes_fault(nodes: &[u64], base: u64) -> u8
     ensures { λ r. ⌜ r ≡ nodesFault (now (nodes .entry)) base (nodeCount (now (nodes .entry))) ⌝ }
 {
     let n = nodes.len() / 4;
     let mut i = 0;
+    let mut e = 0;
+    let mut g = 0;
     while i < n {
-        let f = node_fault(nodes, base, i);
+        let f = node_fault(nodes, base, i, e, g);
         if f != faults::NONE {
             return f;
         }
+        e = crate::first_at(nodes, i);
+        g = crate::depth_at(nodes, i);
         i += 1;
     }
     faults::NONE

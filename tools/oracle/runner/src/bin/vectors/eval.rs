@@ -132,6 +132,26 @@ pub fn make() -> Pair {
         }
     }
 
+    // nodes over others: every word of every node spoiled, one at a time
+    for kind in [MINUS, ADD, TERNARY] {
+        for deeper in 0..arity(kind).unwrap() {
+            let mut b = Builder::default();
+            for place in 0..arity(kind).unwrap() { b.reg(place as u64 % 2); if place == deeper { b.op(MINUS); } }
+            let table = b.op(kind).words.clone();
+            for at in 0..table.len() {
+                for x in [table[at].wrapping_sub(1), table[at] + 1, u64::MAX] {
+                    let mut t = table.clone();
+                    t[at] = x;
+                    one(&mut out, &t, 1, 1, None, &pairs(&[(2, 5), (2, 6)]));
+                }
+            }
+        }
+    }
+    // no whole node; a first beyond the node; no depth is one more than 2^64 - 1
+    for t in [&[NIL, 0, 0][..], &[TERNARY, 0, 0, 2], &[REF, 0, 0, 1, REF, 0, 2, 1, ADD, 0, 0, 2], &[NIL, 0, 0, u64::MAX, NOT, 0, 0, 0], &[NIL, 0, 0, 1, NOT, 0, 0, u64::MAX]] {
+        one(&mut out, t, 1, 0, None, &pairs(&[(2, 5)]));
+    }
+
     // the limits: depth, nodes, registers
     for depth in [64, 65] {
         for (leaf, op) in [(REF, MINUS), (TRUE, NOT), (TRUE, AND), (FALSE, OR), (FALSE, TERNARY), (INT, ADD)] {
