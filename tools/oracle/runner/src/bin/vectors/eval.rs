@@ -125,7 +125,7 @@ pub fn make() -> Pair {
     // one node, each field spoiled; a payload where none belongs
     for kind in 0..=5u64 {
         let payload = if kind < 3 { 0 } else { 1 };
-        for (at, x) in [(0, 27), (0, u64::MAX), (1, 1), (1, 1 << 63), (2, 1), (2, u64::MAX), (3, 0), (3, 2), (3, 65), (3, u64::MAX), (0, kind)] {
+        for (at, x) in [(0, 27), (0, u64::MAX), (1, 1), (1, 1 << 63), (2, 1), (2, u64::MAX), (3, 0), (3, 2), (3, MAX_DEPTH + 1), (3, u64::MAX), (0, kind)] {
             let mut t = [kind, payload, 0, 1];
             t[at] = x;
             one(&mut out, &t, 1, 1, None, &pairs(&[(2, 5), (2, 6)]));
@@ -133,7 +133,7 @@ pub fn make() -> Pair {
     }
 
     // the limits: depth, nodes, registers
-    for depth in [64, 65] {
+    for depth in [MAX_DEPTH, MAX_DEPTH + 1] {
         for (leaf, op) in [(REF, MINUS), (TRUE, NOT), (TRUE, AND), (FALSE, OR), (FALSE, TERNARY), (INT, ADD)] {
             for right in [false, true] {
                 let mut b = Builder::default();
