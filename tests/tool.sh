@@ -56,6 +56,14 @@ check "a refusal" 1 "refused with 4" sh -c "printf 'ref 0\n' | $tool"
 check "a fault" 1 "fault 22: Mod by zero" sh -c "printf 'int 1\nint 0\nmod\n' | $tool"
 check "a refusal names its file and line" 1 "$room/ref:2: node 1: register 7 is not below the base, 1" sh -c "printf 'ref 0\nref 7\nadd\nlocal nil\n' >'$room/ref'; $tool '$room/ref'"
 
+# ---- the limits: of the library, and of what is shown
+check "as deep as may be" 0 "tree:  false" sh -c "{ echo true; yes not | head -n 199; } | $tool"
+check "a level too many" 1 "refused with 3: depth over 200" sh -c "{ echo true; yes not | head -n 200; } | $tool"
+awk 'BEGIN { for (i = 1; i <= 2048; i++) { print "true"; for (j = i; j % 2 == 0; j /= 2) print "or" } print "not" }' >"$room/wide"
+check "as many nodes as are shown" 0 "nodes 4096, parameters 0, locals 0, no destination" $tool "$room/wide"
+echo not >>"$room/wide"
+check "more nodes than are shown" 2 "$room/wide:4097: 'not': more than 4096 nodes: this tool shows no larger expression (the library takes up to 65536)" $tool "$room/wide"
+
 # ---- what cannot be read
 check "a text that cannot be read" 2 "-:1: 'lte': no kind of node" sh -c "printf 'lte\n' | $tool"
 check "a decimal that no float is equal to" 2 "0x3fe6666666666666 (0.6999999999999999555910790149937383830547332763671875) or float 0x3fe6666666666667" sh -c "printf 'float 0.7\n' | $tool"
