@@ -289,7 +289,7 @@ int main(void) {
     for (int i = 0; i < 200; i++) num(1ll << 40);
     for (int i = 0; i < 199; i++) over(VOSEMAQE_NODE_EQ, 2);
     EXPECT(compiles(1, 0) == 0 && C.frame == 400);
-    equal_tests(8192); EXPECT(N == 65535 && compiles(2, 0) == 0 && C.words == 73731 && is(code[8], VOSEMAQE_OP_JEQ, 2, 3, 73721, 0, 0));
+    equal_tests(8192); EXPECT(N == 65535 && compiles(2, 0) == 0 && C.words == 73731 && is(code[8], VOSEMAQE_OP_JEQ, 3, 4, 73721, 0, 0));
     /* 13: shifts */
     ref(0); num(63); over(VOSEMAQE_NODE_LSHIFT, 2); EXPECT(compiles(1, 0) == 0 && shape(1, 0, 1, 2) && is(code[0], VOSEMAQE_OP_LSHIFT_IMM, 1, 0, 63, 0, 0));
     ref(0); num(64); over(VOSEMAQE_NODE_LSHIFT, 2); gives(1, INTS(1), VOSEMAQE_BAD_SHIFT, 0, 0);
