@@ -250,8 +250,8 @@ fn with_all(
     )
 }
 
-// A checked table with the list for `most` nodes, or, where it has more, with a longer one. The compiler inlines what is called once, and would so put all
-// four lists into one frame; into a routine that calls itself it inlines no large array (docs/STACK.md).
+// A checked table with the list for `most` nodes, or, where it has more nodes, with a longer list. The compiler inlines a routine that is called once, which
+// would put all four lists into one frame; but it inlines no large array into a routine that calls itself, as this one does (docs/STACK.md).
 fn listed(
     most: usize,
     nodes: &[u64],
