@@ -60,7 +60,7 @@ check "a refusal names its file and line" 1 "$room/ref:2: node 1: register 7 is 
 check "as deep as may be" 0 "tree:  false" sh -c "{ echo true; yes not | head -n 199; } | $tool"
 check "a level too many" 1 "refused with 3: depth over 200" sh -c "{ echo true; yes not | head -n 200; } | $tool"
 awk 'BEGIN { for (i = 1; i <= 2048; i++) { print "true"; for (j = i; j % 2 == 0; j /= 2) print "or" } print "not" }' >"$room/wide"
-check "as many nodes as are shown" 0 "nodes 4096, parameters 0, locals 0, no destination" $tool "$room/wide"
+check "as many nodes as are shown" 0 "words: false in r1 after 4 steps" $tool "$room/wide"
 echo not >>"$room/wide"
 check "more nodes than are shown" 2 "$room/wide:4097: 'not': more than 4096 nodes: this tool shows no larger expression (the library takes up to 65536)" $tool "$room/wide"
 
