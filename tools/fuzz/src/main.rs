@@ -35,7 +35,7 @@ impl Fuzz {
         let words = 8 * 4 * (tables::MAX_NODES + 64);
         Fuzz {
             r: Rng(seed), oracle: Oracle::new(), nodes: Fence::new(words), code: Fence::new(words), kinds: Fence::new(1 << 17), payloads: Fence::new(1 << 20),
-            slot_kinds: Fence::new(1 << 16), slot_payloads: Fence::new(1 << 17), jumps: Fence::new(1 << 16), cells: Fence::new(64), numbers: [0; 256],
+            slot_kinds: Fence::new(1 << 16), slot_payloads: Fence::new(1 << 17), jumps: Fence::new(words / 4), cells: Fence::new(64), numbers: [0; 256],
         }
     }
 
