@@ -194,9 +194,8 @@ unstarred =
     -- 11: Nil with base 65,534: accepted, frame 65,535; base 65,535: 5
     (answered (node 0 0 0 1) 65534 8 8 8, 0 ∷ 65534 ∷ 65535 ∷ 0 ∷ load 65534 1 ∷ [])
     ∷ (answered (node 0 0 0 1) 65535 8 8 8, 5 ∷ [])
-    -- 12: depth 200 accepted, 201 is 3 (02, W7)
+    -- 12: depth 200 accepted (02, W7); that 201 is 3 stands with the refusals
     ∷ (numberOf (compileOf (nots 200) 1 0 None 8 200 8), 0 ∷ [])
-    ∷ (numberOf (compileOf (nots 201) 1 0 None 8 201 8), 3 ∷ [])
     -- 13: a << 63 folds; a << 64 compiles in general form and faults 24, evaluated and run
     ∷ (compiled 1 (withInt 11 63), 0 ∷ 1 ∷ 2 ∷ 0 ∷ word (Op.Shift Shift.Left 1 0 63) ∷ [])
     ∷ (compiled 1 (withInt 11 64), 0 ∷ 1 ∷ 2 ∷ 0 ∷ load 1 256 ∷ word (Op.Three Three.Lshift 1 0 1) ∷ [])
