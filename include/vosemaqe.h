@@ -13,7 +13,10 @@
  *   - It reads and writes only what it is lent. It allocates nothing, keeps nothing, has no state, and calls nothing but memset. So any number of
  *     threads may call at once, each with buffers of its own; a buffer that is only read may be shared.
  *   - Every result cell is written: it holds 0 where the number is not 0, but for the steps and the position of a run, which a stopped run has too.
- *   - Its stack is bounded: recursion ends at VOSEMAQE_MAX_DEPTH. 64 KiB are room for every function and every table; docs/STACK.md has the figures.
+ *   - Its stack is bounded: recursion ends at VOSEMAQE_MAX_DEPTH. Room for every table: 416 KiB in vosemaqe_compile, of which 256 KiB are a jump list that
+ *     only tables of more than 4,096 nodes take (160 KiB up to 4,096 nodes, 144 KiB up to 512); 144 KiB in vosemaqe_compile_with, to which a list is lent:
+ *     it is the entry for small stacks; 48 KiB in vosemaqe_evaluate; 1 KiB in every other function. A table that is less deep takes less: at most 704 bytes
+ *     a level in a compile, 224 in vosemaqe_evaluate. docs/STACK.md has the figures.
  *
  * WHAT THE CALLER OWES
  *
@@ -106,8 +109,8 @@ enum vosemaqe_number {
 };
 
 /* The limits. */
-#define VOSEMAQE_MAX_NODES 4096
-#define VOSEMAQE_MAX_DEPTH 64
+#define VOSEMAQE_MAX_NODES 65536
+#define VOSEMAQE_MAX_DEPTH 200
 #define VOSEMAQE_MAX_REGISTERS 65535
 
 /* What to lend. A compile of n nodes makes at most 4 * n words, one constant at most for each Int or Float node, and needs at most (n + 1) / 2 places in a
@@ -239,7 +242,8 @@ uint8_t vosemaqe_compile(const uint64_t *nodes, uint64_t nodes_len, uint64_t par
     uint64_t *code, uint64_t code_len, uint8_t *slot_kinds, uint64_t slot_kinds_len, uint64_t *slot_payloads, uint64_t slot_payloads_len,
     uint64_t *words, uint64_t *slots, uint64_t *reg, uint64_t *frame);
 
-/* The same with a lent jump list in place of the 2,048 places that vosemaqe_compile has on its stack: 7 where it runs out. All of `jumps` is left zero. */
+/* The same with a lent jump list in place of the one that vosemaqe_compile has on its stack (up to 256 KiB): 7 where it runs out. All of `jumps` is left
+ * zero. Lend VOSEMAQE_JUMPS_FOR the table, static memory for instance, where the stack is small. */
 uint8_t vosemaqe_compile_with(const uint64_t *nodes, uint64_t nodes_len, uint64_t params, uint64_t locals, uint64_t dest,
     uint64_t *code, uint64_t code_len, uint8_t *slot_kinds, uint64_t slot_kinds_len, uint64_t *slot_payloads, uint64_t slot_payloads_len,
     uint64_t *jumps, uint64_t jumps_len, uint64_t *words, uint64_t *slots, uint64_t *reg, uint64_t *frame);

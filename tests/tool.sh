@@ -87,8 +87,10 @@ check "the greatest depth" 0 "tree:  " $tool "$room/deep"
 { echo "ref 0" && lines not "$depth" && echo "local true"; } >"$room/deeper"
 check "one more" 1 "refused with 3: depth over $depth" $tool "$room/deeper"
 check "one more, and where" 1 "$room/deeper:$((depth + 1)): node $depth: its depth is $((depth + 1))" $tool "$room/deeper"
-lines nil 4096 >"$room/nodes"
-check "4096 nodes" 1 "$room/nodes:4096: the last node does not take in all nodes before it" $tool "$room/nodes"
+awk 'BEGIN { for (i = 1; i <= 2048; i++) { print "true"; for (j = i; j % 2 == 0; j /= 2) print "or" } print "not" }' >"$room/wide"
+check "as many nodes as are shown" 0 "words: false in r1 after 4 steps" $tool "$room/wide"
+echo not >>"$room/wide"
+check "more nodes than are shown" 2 "$room/wide:4097: 'not': more than 4096 nodes: this tool shows no larger expression (the library takes up to 65536)" $tool "$room/wide"
 # a balanced tree of 511 Lt over Refs: 2044 words, with positions of one to four digits
 balanced() { # LEVELS
     if [ "$1" -eq 0 ]; then echo "ref 0"; else balanced $(($1 - 1)) && balanced $(($1 - 1)) && echo lt; fi

@@ -18,8 +18,9 @@ static void *lend(const void *from, size_t bytes) {
     struct lent *l = &pool[used++];
     l->bytes = bytes;
     l->reads = from != NULL;
-    memset(l->mem, 0xA5, sizeof l->mem);
+    memset(l->mem, 0xA5, GUARD);
     memset(l->mem + GUARD, 0x5A, bytes);
+    memset(l->mem + GUARD + bytes, 0xA5, GUARD);
     if (from) { memcpy(l->mem + GUARD, from, bytes); memcpy(l->copy, from, bytes); }
     return l->mem + GUARD;
 }
@@ -65,12 +66,13 @@ static void over(uint64_t kind, int children) {
 /* ---- one compile: the answer, and what it left */
 
 static struct { uint8_t number; uint64_t words, slots, reg, frame; } C;
-static uint64_t code[4 * (VOSEMAQE_MAX_NODES + 1)], slot_payloads[70];
-static uint8_t slot_kinds[70];
+static uint64_t code[4 * (VOSEMAQE_MAX_NODES + 1)], slot_payloads[210];
+static uint8_t slot_kinds[210];
+static size_t fewer; /* places that the lent jump list is short of VOSEMAQE_JUMPS_FOR */
 
 static void compile(uint64_t params, uint64_t dest, size_t room, size_t slots, int with) {
     uint64_t *cells = lend(NULL, 32), *nodes = lend(T, 32 * N), *w = lend(NULL, 8 * room), *p = lend(NULL, 8 * slots), *j;
-    size_t jumps = VOSEMAQE_JUMPS_FOR(N);
+    size_t jumps = VOSEMAQE_JUMPS_FOR(N) - fewer;
     uint8_t *k = lend(NULL, slots + 1);
     j = lend(NULL, 8 * jumps);
     C.number = with
@@ -97,9 +99,9 @@ static void completes(void) {
 
 /* Both ways to compile, with room, answer the same; the number is the answer. */
 static uint8_t compiles(uint64_t params, uint64_t dest) {
-    compile(params, dest, VOSEMAQE_WORDS_FOR(N), N < 64 ? VOSEMAQE_SLOTS_FOR(N) : 64, 1);
+    compile(params, dest, VOSEMAQE_WORDS_FOR(N), N < 200 ? VOSEMAQE_SLOTS_FOR(N) : 200, 1);
     uint64_t before[] = {C.number, C.words, C.slots, C.reg, C.frame}, first = code[0];
-    compile(params, dest, VOSEMAQE_WORDS_FOR(N), N < 64 ? VOSEMAQE_SLOTS_FOR(N) : 64, 0);
+    compile(params, dest, VOSEMAQE_WORDS_FOR(N), N < 200 ? VOSEMAQE_SLOTS_FOR(N) : 200, 0);
     uint64_t after[] = {C.number, C.words, C.slots, C.reg, C.frame};
     EXPECT(!memcmp(before, after, sizeof before) && (C.words == 0 || first == code[0]));
     if (C.number != VOSEMAQE_BAD_NODE) completes();
@@ -141,7 +143,8 @@ static void evaluate(uint64_t base, const uint8_t *ks, const uint64_t *ps, size_
     EXPECT(kept());
 }
 static void run(const uint8_t *ks, const uint64_t *ps, size_t n, uint64_t budget) {
-    uint8_t rk[16] = {0}; uint64_t rp[16] = {0}, store[80];
+    uint8_t rk[16] = {0}; uint64_t rp[16] = {0};
+    static uint64_t store[3 + VOSEMAQE_WORDS_FOR(VOSEMAQE_MAX_NODES)];
     memcpy(rk, ks, n); memcpy(rp, ps, 8 * n);
     /* the words alone; as a part of a store; alone again, on the temporaries that the run before left */
     for (int turn = 0; turn < 3; turn++) {
@@ -189,6 +192,18 @@ static void wide(int nodes) {
     if (nodes == 1) { ref(0); return; }
     if (nodes == 2) { ref(0); over(VOSEMAQE_NODE_MINUS, 1); return; }
     wide((nodes - 1) / 2); wide(nodes - 1 - (nodes - 1) / 2); over(VOSEMAQE_NODE_ADD, 2);
+}
+/* Or over so many Refs, a power of two, as shallow as can be: a jump for each, all pending at once. */
+static void ors(int refs) {
+    if (refs == 1) { ref(0); return; }
+    ors(refs / 2); ors(refs / 2); over(VOSEMAQE_NODE_OR, 2);
+}
+/* Or over so many terms (a < b) == (c < d), of 7 nodes each. */
+static void equal_tests(int terms) {
+    if (terms > 1) { equal_tests(terms / 2); equal_tests(terms / 2); over(VOSEMAQE_NODE_OR, 2); return; }
+    ref(0); ref(1); over(VOSEMAQE_NODE_LT, 2);
+    ref(0); ref(1); over(VOSEMAQE_NODE_LT, 2);
+    over(VOSEMAQE_NODE_EQ, 2);
 }
 static uint8_t patch(uint64_t words, uint64_t at, uint64_t target, uint64_t first, uint64_t after) {
     uint64_t *w = lend(NULL, 8 * words);
@@ -252,10 +267,29 @@ int main(void) {
     leaf(VOSEMAQE_NODE_NIL, 0); EXPECT(compiles(65535, 0) == VOSEMAQE_NO_REGISTER);
     leaf(VOSEMAQE_NODE_NIL, 0); EXPECT(vosemaqe_check(T, 4, UINT64_MAX, 1, 0) == VOSEMAQE_NO_REGISTER && vosemaqe_check(T, 4, 7, 0, UINT64_MAX) == VOSEMAQE_NOT_LOCAL); N = 0;
     /* 12: depth and nodes */
-    deep(64); EXPECT(compiles(0, 0) == 0);
-    deep(65); EXPECT(compiles(0, 0) == VOSEMAQE_TOO_DEEP);
-    wide(VOSEMAQE_MAX_NODES); EXPECT(compiles(1, 0) == 0);
-    wide(VOSEMAQE_MAX_NODES + 1); EXPECT(compiles(1, 0) == VOSEMAQE_BAD_SHAPE);
+    EXPECT(VOSEMAQE_MAX_DEPTH == 200 && VOSEMAQE_MAX_NODES == 65536);
+    deep(200); EXPECT(compiles(0, 0) == 0 && shape(200, 0, 1, 2));
+    deep(201); EXPECT(compiles(0, 0) == VOSEMAQE_TOO_DEEP);
+    deep(199); put(VOSEMAQE_NODE_NOT, 0, 0, 201); EXPECT(compiles(0, 0) == VOSEMAQE_BAD_NODE);
+    wide(65536); EXPECT(compiles(1, 0) == 0);
+    wide(65537); EXPECT(compiles(1, 0) == VOSEMAQE_BAD_SHAPE);
+    wide(65536); EXPECT(vosemaqe_check(T, 4 * 65536, 1, 0, 0) == 0 && vosemaqe_check(T, 4 * 65536 + 1, 1, 0, 0) == VOSEMAQE_BAD_SHAPE); N = 0;
+    /* around the length of each jump list that vosemaqe_compile has */
+    static const int lists[] = {64, 512, 4096};
+    for (int i = 0; i < 3; i++) for (int more = 0; more < 2; more++) { wide(lists[i] + more); EXPECT(compiles(1, 0) == 0); }
+    for (int refs = 32; refs <= 32768; refs *= 2) {
+        /* a word for each jump, False, a jmp, True; the last nodes make an even number: half as many jumps are pending */
+        ors(refs); EXPECT(compiles(1, 0) == 0 && shape(refs + 3, 0, 1, 2) && is(code[0], VOSEMAQE_OP_IF_TRUE, 0, refs + 1, 0, 0, 0));
+        ors(refs); fewer = 1; compile(1, 0, VOSEMAQE_WORDS_FOR(N), 1, 1); EXPECT(C.number == VOSEMAQE_NO_ROOM); fewer = 0; N = 0;
+        ors(refs); over(VOSEMAQE_NODE_NOT, 1); EXPECT(compiles(1, 0) == 0);
+    }
+    /* 199 Minus over a Ref; 200 levels of Eq over constants, each held while the rest is made; a jump over 73,700 words */
+    ref(0); for (int i = 0; i < 199; i++) over(VOSEMAQE_NODE_MINUS, 1);
+    gives(1, INTS(5), 0, VOSEMAQE_INT, (uint64_t)-5);
+    for (int i = 0; i < 200; i++) num(1ll << 40);
+    for (int i = 0; i < 199; i++) over(VOSEMAQE_NODE_EQ, 2);
+    EXPECT(compiles(1, 0) == 0 && C.frame == 400);
+    equal_tests(8192); EXPECT(N == 65535 && compiles(2, 0) == 0 && C.words == 73731 && is(code[8], VOSEMAQE_OP_JEQ, 3, 4, 73721, 0, 0));
     /* 13: shifts */
     ref(0); num(63); over(VOSEMAQE_NODE_LSHIFT, 2); EXPECT(compiles(1, 0) == 0 && shape(1, 0, 1, 2) && is(code[0], VOSEMAQE_OP_LSHIFT_IMM, 1, 0, 63, 0, 0));
     ref(0); num(64); over(VOSEMAQE_NODE_LSHIFT, 2); gives(1, INTS(1), VOSEMAQE_BAD_SHIFT, 0, 0);

@@ -89,9 +89,9 @@ macro_rules! errors {
 }
 
 errors! {
-    BadShape = 1, "table empty, not a multiple of 4 words, or over 4,096 nodes";
+    BadShape = 1, "table empty, not a multiple of 4 words, or over 65,536 nodes";
     BadNode = 2, "unknown kind, non-zero payload, a Float that is not finite, missing child, wrong first or depth, or last node's first not 0";
-    TooDeep = 3, "depth over 64";
+    TooDeep = 3, "depth over 200";
     NotLocal = 4, "Ref or destination not below the base";
     NoRegister = 5, "parameters plus locals, or an allocation, pass 65,535 registers";
     NoSlot = 6, "no constant slot left";

@@ -8,7 +8,7 @@ use Rattle.table.specs.declared.Dest.{Dest}
 use Rattle.compile.specs.Compile.{generated, accepted, compileOf}
 use Rattle.compile.proofs.Entries.{enough}
 
--- With any two such lists compiling gives the same. For 4,096 nodes 2,048 places are enough.
+-- With any two such lists compiling gives the same. For 65,536 nodes 32,768 places are enough.
 pub places-enough :
     (ws : List ℕ) (params locals : ℕ) (dest : Dest) (p q cap slotCap : ℕ) → nodeCount ws ≤ 2 * p → nodeCount ws ≤ 2 * q →
     compileOf ws params locals dest p cap slotCap ≡ compileOf ws params locals dest q cap slotCap

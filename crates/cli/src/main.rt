@@ -16,11 +16,12 @@ use reader::gather::end_of;
 use reader::gather::put_nodes;
 use reader::gather::put_values;
 use reader::head::Head;
+use reader::head::NODES;
 
-// Room for a text, for one node more than a table may have, and for as many values as there are registers.
+// Room for a text, for the nodes of an expression that is shown, and for as many values as there are registers.
 const TEXT: usize = 262144;
 
-const TABLE: usize = 16388;
+const TABLE: usize = 4 * NODES;
 
 const VALUES: usize = 65535;
 

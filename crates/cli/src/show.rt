@@ -14,6 +14,7 @@ use print::three;
 use print::two;
 use reader::gather::put_spans;
 use reader::head::Head;
+use reader::head::NODES;
 use reader::head::base_of;
 use reader::head::locals_of;
 use table::Dest;
@@ -29,10 +30,10 @@ pub enum Outcome {
     Nothing,
 }
 
-// Room for words and for constants. An accepted table has no more constants than nodes.
-const WORDS: usize = 16384;
+// Room for words and for constants: of as many nodes as are shown there are at most four times as many words, and no more constants than nodes.
+const WORDS: usize = 4 * NODES;
 
-const SLOTS: usize = 4096;
+const SLOTS: usize = NODES;
 
 // n, or the room where that is less.
 fn within(n: usize, room: usize) -> usize
@@ -56,9 +57,9 @@ fn say_meaning(n: u8) {
     if n < 20 {
         tell_line(
             b": no number of the table\n\
-              : table empty, not a multiple of 4 words, or over 4096 nodes\n\
+              : table empty, not a multiple of 4 words, or over 65536 nodes\n\
               : unknown kind, non-zero payload, a Float that is not finite, missing child, wrong first or depth, or the last node's first is not 0\n\
-              : depth over 64\n\
+              : depth over 200\n\
               : Ref or destination not below the base\n\
               : parameters plus locals, or an allocation, pass 65535 registers\n\
               : no constant slot left\n\
@@ -325,7 +326,7 @@ fn compiled(
     )
 }
 
-// The words, in room for those of every accepted table.
+// The words, in room for those of every table that is shown.
 fn compile(nodes: &[u64], kinds: &mut [u8], payloads: &mut [u64], h: Head) -> Outcome {
     let mut code = [0u64; WORDS];
     let mut slot_kinds = [0u8; SLOTS];
@@ -413,7 +414,7 @@ pub fn show(
     payloads: &mut [u64],
     h: Head,
 ) -> Outcome {
-    let room = within(4 * within(h.nodes, 4097), nodes.len());
+    let room = within(4 * within(h.nodes, NODES), nodes.len());
     say_layout(h);
     show_table(name, s, line, &mut nodes[..room], kinds, payloads, h)
 }

@@ -5,10 +5,12 @@ use print::say;
 use print::say_value;
 use print::tell;
 use print::tell_line;
+use print::two;
 use reader::Line;
 use reader::Trouble;
 use reader::head::Clash;
 use reader::head::Head;
+use reader::head::NODES;
 use reader::head::clash_of;
 use reader::title_from;
 use text::fields::count;
@@ -92,19 +94,21 @@ fn say_trouble(t: Trouble) {
     say(b"\n");
 }
 
-// A line that contradicts those before it: which message it gets, and the number in that message.
+// A line that contradicts those before it: which message it gets, and the first number in that message.
 fn clash_line(c: Clash) -> u64 {
     match c {
         Clash::No => 0,
         Clash::Twice(_) => 1,
         Clash::ManyValues => 2,
         Clash::NoRegister => 3,
+        Clash::ManyNodes => 4,
     }
 }
 
 fn clash_number(c: Clash) -> u64 {
     match c {
         Clash::Twice(before) => before,
+        Clash::ManyNodes => NODES as u64,
         _ => 0,
     }
 }
@@ -121,9 +125,10 @@ fn say_clash(name: &[u8], l: &[u8], line: u64, c: Clash) -> bool {
         b"\n\
           said before, on line %\n\
           more than 65535 values\n\
-          no register has so large a number",
+          no register has so large a number\n\
+          more than % nodes: this tool shows no larger expression (the library takes up to %)",
         n,
-        one(clash_number(c)),
+        two(clash_number(c), faults::MAX_NODES as u64),
     );
     say(b"\n");
     true

@@ -6,7 +6,7 @@ use table::Dest;
 // Room for the largest record.
 const TABLE_WORDS: usize = 16388;
 
-const WORDS: usize = 2053;
+const WORDS: usize = 2054;
 
 const SLOTS: usize = 65;
 

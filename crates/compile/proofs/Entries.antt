@@ -1,7 +1,7 @@
 -- What the proofs of `generate`, `compile` and `compile_with` cite: what a checked table gives, from the root's answer.
 use mathlib.Core.Path.{_≡_, refl, sym, ap, subst, _∙_}
 use mathlib.Core.List.{List, [], _++_, map}
-use Prim.Native.Nat.{ℕ, zero, suc, _+_, _*_, _-_, _≤_, min}
+use Prim.Native.Nat.{ℕ, zero, suc, _+_, _*_, _-_, _<_, _≤_, min}
 use native.Mathlib.Nat.{min-le-left, min-le-right}
 use native.Mathlib.Omega.{arith}
 use lib.ListN.{length, take, drop, replicate, length-append, length-drop, List·getD-append}
@@ -126,6 +126,26 @@ enough ws params locals dest room cap slotCap h n =
     let f = a .few in
     same-generated (tree ws (nodeCount ws - 1)) dest (params + locals) room maxNodes cap slotCap (omega arith) (omega arith)
 
+pub compiles-by : {q : Compiled} {g g' : Res (ℕ × State)} {c k p : List ℕ} {lc lk lp : ℕ} → g ≡ g' → Compiles q g c k p lc lk lp → Compiles q g' c k p lc lk lp
+compiles-by {q} {c = c} {k = k} {p = p} {lc = lc} {lk = lk} {lp = lp} e h = subst (λ (y : Res (ℕ × State)). Compiles q y c k p lc lk lp) e h
+
+-- a list for half the nodes gives what a list for all of them gives
+module _ (ws : List ℕ) (params locals : ℕ) (dest : Dest) (cap slotCap : ℕ) {lc lk lp : ℕ} {q : Compiled} {c k p : List ℕ} where
+  pub enough-places : (places : ℕ) → checkOf ws params locals dest ≡ 0 → nodeCount ws ≤ 2 * places → Compiles q (generated (tree ws (nodeCount ws - 1)) dest (params + locals) places cap slotCap) c k p lc lk lp →
+      Compiles q (generated (tree ws (nodeCount ws - 1)) dest (params + locals) maxNodes cap slotCap) c k p lc lk lp
+  enough-places places h few m = compiles-by (enough ws params locals dest places cap slotCap h few) m
+
+  pub places-for-all : (places : ℕ) → checkOf ws params locals dest ≡ 0 → maxNodes ≤ 2 * places → Compiles q (generated (tree ws (nodeCount ws - 1)) dest (params + locals) places cap slotCap) c k p lc lk lp →
+      Compiles q (generated (tree ws (nodeCount ws - 1)) dest (params + locals) maxNodes cap slotCap) c k p lc lk lp
+  places-for-all places h all = let a = accepted-table ws params locals dest h .few in enough-places places h (omega arith)
+
+-- `listed`: the list grows at each call, and the one that is taken is for at least as many nodes as there are
+pub longer : {t most : ℕ} → 32768 - most ≡ t → 0 < most → most ≤ 4096 → 32768 - 8 * most < t
+longer e h k = omega arith
+
+pub listed-for : {n most k : ℕ} → n ≤ most → most ≤ k → n ≤ k
+listed-for h k = omega arith
+
 -- ---- the check first
 
 module _ (ws : List ℕ) (params locals : ℕ) (dest : Dest) (room cap slotCap : ℕ) {f : ℕ} (check : f ≡ checkOf ws params locals dest) where
@@ -141,9 +161,6 @@ module _ (ws : List ℕ) (params locals : ℕ) (dest : Dest) (room cap slotCap :
   unfolding compileOf
   check-passed h = ap (λ (n : ℕ). accepted n (generated (tree ws (nodeCount ws - 1)) dest (params + locals) room cap slotCap)) (sym h ∙ check)
 
-pub compiles-by : {q : Compiled} {g g' : Res (ℕ × State)} {c k p : List ℕ} {lc lk lp : ℕ} → g ≡ g' → Compiles q g c k p lc lk lp → Compiles q g' c k p lc lk lp
-compiles-by {q} {c = c} {k = k} {p = p} {lc = lc} {lk = lk} {lp = lp} e h = subst (λ (y : Res (ℕ × State)). Compiles q y c k p lc lk lp) e h
-
 -- the ways out of an entry, each as the definition says: refused by the check, or with what is generated
 module _ (ws : List ℕ) (params locals : ℕ) (dest : Dest) {f : ℕ} (check : f ≡ checkOf ws params locals dest) (cap slotCap : ℕ) {lc lk lp : ℕ} {q : Compiled} {c k p : List ℕ} where
   pub out-refused : (room : ℕ) → (f ≡ 0 → ⊥) → Compiles q (fail f) c k p lc lk lp → Compiles q (compileOf ws params locals dest room cap slotCap) c k p lc lk lp
@@ -151,16 +168,6 @@ module _ (ws : List ℕ) (params locals : ℕ) (dest : Dest) {f : ℕ} (check : 
 
   pub out-passed : (room : ℕ) → f ≡ 0 → Compiles q (generated (tree ws (nodeCount ws - 1)) dest (params + locals) room cap slotCap) c k p lc lk lp → Compiles q (compileOf ws params locals dest room cap slotCap) c k p lc lk lp
   out-passed room h = compiles-by (check-passed ws params locals dest room cap slotCap check h)
-
-  -- a list that comes with the entry does not run out
-  pub out-roomy : (places : ℕ) → f ≡ 0 → nodeCount ws ≤ 2 * places → Compiles q (generated (tree ws (nodeCount ws - 1)) dest (params + locals) places cap slotCap) c k p lc lk lp →
-      Compiles q (compileOf ws params locals dest maxNodes cap slotCap) c k p lc lk lp
-  out-roomy places h few m =
-      compiles-by (enough ws params locals dest places cap slotCap (sym check ∙ h) few ∙ check-passed ws params locals dest maxNodes cap slotCap check h) m
-
-  pub out-all : (places : ℕ) → f ≡ 0 → maxNodes ≤ 2 * places → Compiles q (generated (tree ws (nodeCount ws - 1)) dest (params + locals) places cap slotCap) c k p lc lk lp →
-      Compiles q (compileOf ws params locals dest maxNodes cap slotCap) c k p lc lk lp
-  out-all places h all = let a = accepted-table ws params locals dest (sym check ∙ h) .few in out-roomy places h (omega arith)
 
 pub ruleset outs = (out-refused, out-passed)
 

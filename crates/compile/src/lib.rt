@@ -13,7 +13,7 @@ use emit::state::Dst;
 use emit::state::St;
 use table::Dest;
 ghost use mathlib.Core.Path.{_≡_};
-ghost use Prim.Native.Nat.{ℕ, _+_, _-_, _≤_, min};
+ghost use Prim.Native.Nat.{ℕ, _+_, _-_, _<_, _≤_, min};
 ghost use lib.ListN.{length, replicate};
 ghost use Rattle.faults.specs.Limits.{maxNodes, maxRegisters};
 ghost use Rattle.table.specs.Table.{nodeCount, tempBase, checkOf};
@@ -115,13 +115,177 @@ fn generate(
     }
 }
 
-// Half as many places as a table has nodes are enough for its jumps (codegen's proofs/Room). A table of at most SMALL nodes gets a list that is cleared
-// sooner.
-const SMALL: usize = 64;
+// Half as many places as a table has nodes are enough for its jumps (codegen's proofs/Room). So `compile` has four lists, for tables of up to FEW, SOME, MANY
+// and MAX_NODES nodes, each in a routine of its own: a table takes the stack of one list, and the time to clear it.
+const FEW: usize = 64;
 
-const SMALL_JUMPS: usize = SMALL / 2;
+const SOME: usize = 512;
 
-const ALL_JUMPS: usize = faults::MAX_NODES / 2;
+const MANY: usize = 4096;
+
+fn with_few(
+    nodes: &[u64],
+    params: u64,
+    locals: u64,
+    dest: Dest,
+    code: &mut [u64],
+    kinds: &mut [u8],
+    payloads: &mut [u64],
+) -> Compiled
+    requires { ⌜ checkOf (now nodes) params locals dest ≡ 0 ⌝ }
+    requires { ⌜ nodeCount (now nodes) ≤ 64 ⌝ }
+    ensures { λ q. ⌜
+        Compiles q
+        (generated (tree (now (nodes .entry)) (nodeCount (now (nodes .entry)) - 1)) dest (params + locals) maxNodes
+        (length (now (code .entry))) (min (length (now (kinds .entry))) (length (now (payloads .entry)))))
+        (now (code .exit)) (now (kinds .exit)) (now (payloads .exit))
+        (length (now (code .entry))) (length (now (kinds .entry))) (length (now (payloads .entry)))
+        ⌝ }
+{
+    let mut jumps = [0u64; FEW / 2];
+    generate(
+        nodes,
+        params,
+        locals,
+        dest,
+        code,
+        kinds,
+        payloads,
+        &mut jumps,
+    )
+}
+
+fn with_some(
+    nodes: &[u64],
+    params: u64,
+    locals: u64,
+    dest: Dest,
+    code: &mut [u64],
+    kinds: &mut [u8],
+    payloads: &mut [u64],
+) -> Compiled
+    requires { ⌜ checkOf (now nodes) params locals dest ≡ 0 ⌝ }
+    requires { ⌜ nodeCount (now nodes) ≤ 512 ⌝ }
+    ensures { λ q. ⌜
+        Compiles q
+        (generated (tree (now (nodes .entry)) (nodeCount (now (nodes .entry)) - 1)) dest (params + locals) maxNodes
+        (length (now (code .entry))) (min (length (now (kinds .entry))) (length (now (payloads .entry)))))
+        (now (code .exit)) (now (kinds .exit)) (now (payloads .exit))
+        (length (now (code .entry))) (length (now (kinds .entry))) (length (now (payloads .entry)))
+        ⌝ }
+{
+    let mut jumps = [0u64; SOME / 2];
+    generate(
+        nodes,
+        params,
+        locals,
+        dest,
+        code,
+        kinds,
+        payloads,
+        &mut jumps,
+    )
+}
+
+fn with_many(
+    nodes: &[u64],
+    params: u64,
+    locals: u64,
+    dest: Dest,
+    code: &mut [u64],
+    kinds: &mut [u8],
+    payloads: &mut [u64],
+) -> Compiled
+    requires { ⌜ checkOf (now nodes) params locals dest ≡ 0 ⌝ }
+    requires { ⌜ nodeCount (now nodes) ≤ 4096 ⌝ }
+    ensures { λ q. ⌜
+        Compiles q
+        (generated (tree (now (nodes .entry)) (nodeCount (now (nodes .entry)) - 1)) dest (params + locals) maxNodes
+        (length (now (code .entry))) (min (length (now (kinds .entry))) (length (now (payloads .entry)))))
+        (now (code .exit)) (now (kinds .exit)) (now (payloads .exit))
+        (length (now (code .entry))) (length (now (kinds .entry))) (length (now (payloads .entry)))
+        ⌝ }
+{
+    let mut jumps = [0u64; MANY / 2];
+    generate(
+        nodes,
+        params,
+        locals,
+        dest,
+        code,
+        kinds,
+        payloads,
+        &mut jumps,
+    )
+}
+
+fn with_all(
+    nodes: &[u64],
+    params: u64,
+    locals: u64,
+    dest: Dest,
+    code: &mut [u64],
+    kinds: &mut [u8],
+    payloads: &mut [u64],
+) -> Compiled
+    requires { ⌜ checkOf (now nodes) params locals dest ≡ 0 ⌝ }
+    ensures { λ q. ⌜
+        Compiles q
+        (generated (tree (now (nodes .entry)) (nodeCount (now (nodes .entry)) - 1)) dest (params + locals) maxNodes
+        (length (now (code .entry))) (min (length (now (kinds .entry))) (length (now (payloads .entry)))))
+        (now (code .exit)) (now (kinds .exit)) (now (payloads .exit))
+        (length (now (code .entry))) (length (now (kinds .entry))) (length (now (payloads .entry)))
+        ⌝ }
+{
+    let mut jumps = [0u64; faults::MAX_NODES / 2];
+    generate(
+        nodes,
+        params,
+        locals,
+        dest,
+        code,
+        kinds,
+        payloads,
+        &mut jumps,
+    )
+}
+
+// A checked table with the list for `most` nodes, or, where it has more nodes, with a longer list. The compiler inlines a routine that is called once, which
+// would put all four lists into one frame; but it inlines no large array into a routine that calls itself, as this one does (docs/STACK.md).
+fn listed(
+    most: usize,
+    nodes: &[u64],
+    params: u64,
+    locals: u64,
+    dest: Dest,
+    code: &mut [u64],
+    kinds: &mut [u8],
+    payloads: &mut [u64],
+) -> Compiled
+    requires { ⌜ checkOf (now nodes) params locals dest ≡ 0 ⌝ }
+    requires { ⌜ 0 < most ⌝ }
+    ensures { λ q. ⌜
+        Compiles q
+        (generated (tree (now (nodes .entry)) (nodeCount (now (nodes .entry)) - 1)) dest (params + locals) maxNodes
+        (length (now (code .entry))) (min (length (now (kinds .entry))) (length (now (payloads .entry)))))
+        (now (code .exit)) (now (kinds .exit)) (now (payloads .exit))
+        (length (now (code .entry))) (length (now (kinds .entry))) (length (now (payloads .entry)))
+        ⌝ }
+{
+    if MANY < most {
+        return with_all(nodes, params, locals, dest, code, kinds, payloads);
+    }
+    if most < nodes.len() / 4 {
+        return listed(8 * most, nodes, params, locals, dest, code, kinds, payloads);
+    }
+    if most <= FEW {
+        return with_few(nodes, params, locals, dest, code, kinds, payloads);
+    }
+    if most <= SOME {
+        return with_some(nodes, params, locals, dest, code, kinds, payloads);
+    }
+    with_many(nodes, params, locals, dest, code, kinds, payloads)
+}
 
 // Compiles a node table, with a jump list of its own that has room for every accepted table.
 pub fn compile(
@@ -145,21 +309,7 @@ pub fn compile(
     if f != faults::NONE {
         return refuse(f, code, kinds, payloads);
     }
-    if nodes.len() / 4 <= SMALL {
-        let mut few = [0u64; SMALL_JUMPS];
-        return generate(nodes, params, locals, dest, code, kinds, payloads, &mut few);
-    }
-    let mut jumps = [0u64; ALL_JUMPS];
-    generate(
-        nodes,
-        params,
-        locals,
-        dest,
-        code,
-        kinds,
-        payloads,
-        &mut jumps,
-    )
+    listed(FEW, nodes, params, locals, dest, code, kinds, payloads)
 }
 
 // The same with a jump list of the caller's, which is left zero. Refuses with 7 where the list runs out.

@@ -1,11 +1,11 @@
--- The limits of document 01, in one place.
+-- The limits of document 01, in one place; nodes and depth as document 02, W7, has them.
 use Prim.Native.Nat.{ℕ}
 
 abbrev pub maxNodes : ℕ
-maxNodes = 4096
+maxNodes = 65536
 
 abbrev pub maxDepth : ℕ
-maxDepth = 64
+maxDepth = 200
 
 abbrev pub maxRegisters : ℕ
 maxRegisters = 65535

@@ -70,10 +70,10 @@ pub const NOT_RUN: u8 = 28;
 pub const ILL_FORMED: u8 = 29;
 
 // The most nodes that a table may have.
-pub const MAX_NODES: usize = 4096;
+pub const MAX_NODES: usize = 65536;
 
 // The greatest depth of a node.
-pub const MAX_DEPTH: u64 = 64;
+pub const MAX_DEPTH: u64 = 200;
 
 // The most registers: of parameters and locals together, and of a frame.
 pub const MAX_REGISTERS: u64 = 65535;

@@ -5,7 +5,7 @@ use machine::run::Ran;
 use replay_io::within;
 
 // Room for the largest record.
-const WORDS: usize = 128;
+const WORDS: usize = 256;
 
 const PAIRS: usize = 32;
 

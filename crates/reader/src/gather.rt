@@ -4,6 +4,7 @@ ghost use mathlib.Core.Path.{_≡_};
 ghost use Prim.Native.Nat.{_+_, _<_, _≤_, min};
 ghost use lib.ListN.{length};
 use crate::Line;
+use crate::head::NODES;
 use crate::read;
 
 // The position after a line that ends at e.
@@ -28,7 +29,7 @@ fn put_two(a: &mut [u64], at: usize, x: u64, y: u64) {
 
 // Kind and payload of node n; the number of the next node.
 fn put_kind(nodes: &mut [u64], n: usize, kind: u64, payload: u64) -> usize {
-    if n <= faults::MAX_NODES {
+    if n < NODES {
         put_two(nodes, 4 * n, kind, payload);
         return n + 1;
     }
@@ -56,7 +57,7 @@ pub fn put_nodes(s: &[u8], nodes: &mut [u64]) {
 
 // First and depth of node n; the number of the next node.
 fn put_span(nodes: &mut [u64], n: usize, first: u64, depth: u64) -> usize {
-    if n <= faults::MAX_NODES {
+    if n < NODES {
         put_two(nodes, 4 * n + 2, first, depth);
         return n + 1;
     }
@@ -67,7 +68,7 @@ fn put_span(nodes: &mut [u64], n: usize, first: u64, depth: u64) -> usize {
 fn next_node(n: usize, l: Line) -> usize {
     match l {
         Line::Node(_, _) => {
-            if n <= faults::MAX_NODES {
+            if n < NODES {
                 return n + 1;
             }
             n

@@ -1,6 +1,10 @@
 // What the lines of an expression have said so far.
 use crate::Line;
 
+// The most nodes of an expression that is shown. The library takes more (faults::MAX_NODES); a text of so many is for a program to write and not for a person
+// to read, and room for its words would not fit on a stack beside the text.
+pub const NODES: usize = 4096;
+
 pub struct Head {
     // The number of the line that is read next, from 1.
     pub line: u64,
@@ -54,6 +58,8 @@ pub enum Clash {
     No,
     // What was said before, and on which line.
     Twice(u64),
+    // There are as many nodes as are shown.
+    ManyNodes,
     // There are as many values as registers.
     ManyValues,
     // No destination has so large a number.
@@ -74,6 +80,13 @@ fn dest_clash(h: Head, n: u64) -> Clash {
     once(h.dest_line)
 }
 
+fn node_clash(h: Head) -> Clash {
+    if NODES <= h.nodes {
+        return Clash::ManyNodes;
+    }
+    Clash::No
+}
+
 fn value_clash(h: Head) -> Clash {
     if faults::MAX_REGISTERS <= h.values as u64 {
         return Clash::ManyValues;
@@ -83,6 +96,8 @@ fn value_clash(h: Head) -> Clash {
 
 pub fn clash_of(h: Head, l: Line) -> Clash {
     match l {
+        Line::Node(_, _) => node_clash(h),
+        Line::Given(_, _, _, _) => node_clash(h),
         Line::Title => once(h.title_line),
         Line::Params(_) => once(h.params_line),
         Line::Locals(_) => once(h.locals_line),
@@ -93,11 +108,10 @@ pub fn clash_of(h: Head, l: Line) -> Clash {
     }
 }
 
-// A table may have one node too many, which the check then refuses.
 fn with_node(h: Head) -> Head {
     let mut t = h;
     t.node_line = h.line;
-    if h.nodes <= faults::MAX_NODES {
+    if h.nodes < NODES {
         t.nodes = h.nodes + 1;
     }
     t

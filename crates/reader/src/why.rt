@@ -133,7 +133,7 @@ fn is_node(l: Line) -> bool {
     }
 }
 
-// The number of the next node, after a line. No table that comes here has more than 4096.
+// The number of the next node, after a line. No table that comes here has more than NODES.
 fn next_node(n: usize, l: Line) -> usize
     requires { ⌜ n ≤ 4097 ⌝ }
     ensures { λ r. ⌜ r ≤ 4097 ⌝ }

@@ -1,8 +1,7 @@
 -- The starred samples of document 01 as one list: what the definitions give, and what 01 says, both written out as numbers.
-use mathlib.Core.Bool.{false, cond}
+use mathlib.Core.Bool.{false}
 use mathlib.Core.List.{List, [], _∷_, _++_}
 use Prim.Native.Nat.{ℕ, zero, suc, _+_, _-_, _*_, _^_}
-use lib.Dec.{eqb}
 use lib.ListN.{length, getD}
 use lib.IntN.{pos}
 use Rattle.value.specs.Value.{kindOf, payloadOf}
@@ -135,10 +134,14 @@ samples =
 
 -- ---- each number of compile has a table: 1 to 7, in 01's words
 
--- n nodes, each Not of the one before, over True: the last has depth n
-unfoldable pub nots : ℕ → List ℕ
-nots zero = []
-nots (suc n) = nots n ++ node (cond (eqb n 0) 1 7) 0 0 (suc n)
+-- so many nodes, each Not of the one before it, the first of this depth
+unfoldable pub notsFrom : ℕ → ℕ → List ℕ
+notsFrom depth zero = []
+notsFrom depth (suc n) = node 7 0 0 depth ++ notsFrom (suc depth) n
+
+-- n nodes: True, and Not of the one before for each other; the last has depth n
+abbrev pub nots : ℕ → List ℕ
+nots n = node 1 0 0 1 ++ notsFrom 2 (n - 1)
 
 -- a compile without a destination, by its parameters and its room for jumps, words and constants
 abbrev pub answered : List ℕ → ℕ → ℕ → ℕ → ℕ → List ℕ
@@ -156,8 +159,9 @@ refused =
     ∷ (answered (node 0 0 1 1) 1 8 8 8, 2 ∷ [])
     ∷ (answered (node 0 0 0 2) 1 8 8 8, 2 ∷ [])
     ∷ (answered (node 0 0 0 1 ++ node 0 0 1 1) 1 8 8 8, 2 ∷ [])
-    -- 3: depth over 64
-    ∷ (answered (nots 65) 1 8 8 8, 3 ∷ [])
+    -- 3: depth over 200 (02, W7); a depth that is wrong is 2, whatever its size
+    ∷ (answered (nots 201) 1 8 8 8, 3 ∷ [])
+    ∷ (answered (nots 199 ++ node 7 0 0 201) 1 8 8 8, 2 ∷ [])
     -- 4: Ref or destination not below the base
     ∷ (answered (node 5 1 0 1) 1 8 8 8, 4 ∷ [])
     ∷ (shown (compileOf (node 0 0 0 1) 1 0 (Reg 1) 8 8 8), 4 ∷ [])
@@ -174,7 +178,7 @@ refused =
     ∷ (answered (node 3 (2 ^ 37) 0 1) 1 8 0 0, 6 ∷ [])
     ∷ []
 
--- ---- the samples without a star, but for 4,096 nodes and 4,097
+-- ---- the samples without a star, but for 65,536 nodes and 65,537 (02, W7)
 
 -- the number alone
 abbrev pub numberOf : Res (ℕ × State) → List ℕ
@@ -190,9 +194,8 @@ unstarred =
     -- 11: Nil with base 65,534: accepted, frame 65,535; base 65,535: 5
     (answered (node 0 0 0 1) 65534 8 8 8, 0 ∷ 65534 ∷ 65535 ∷ 0 ∷ load 65534 1 ∷ [])
     ∷ (answered (node 0 0 0 1) 65535 8 8 8, 5 ∷ [])
-    -- 12: depth 64 accepted, 65 is 3
-    ∷ (numberOf (compileOf (nots 64) 1 0 None 8 64 8), 0 ∷ [])
-    ∷ (numberOf (compileOf (nots 65) 1 0 None 8 65 8), 3 ∷ [])
+    -- 12: depth 200 accepted (02, W7); that 201 is 3 stands with the refusals
+    ∷ (numberOf (compileOf (nots 200) 1 0 None 8 200 8), 0 ∷ [])
     -- 13: a << 63 folds; a << 64 compiles in general form and faults 24, evaluated and run
     ∷ (compiled 1 (withInt 11 63), 0 ∷ 1 ∷ 2 ∷ 0 ∷ word (Op.Shift Shift.Left 1 0 63) ∷ [])
     ∷ (compiled 1 (withInt 11 64), 0 ∷ 1 ∷ 2 ∷ 0 ∷ load 1 256 ∷ word (Op.Three Three.Lshift 1 0 1) ∷ [])

@@ -17,6 +17,18 @@ pub fn junctions(refs: u64, kind: u64) -> Builder {
     b
 }
 
+/// Or over so many terms (a < b) == (c < d), of 7 nodes each, as shallow as can
+/// be: each term takes more words than any other that can be a test, and its
+/// jump goes over all that follow.
+pub fn equal_tests(terms: u64) -> Builder {
+    let mut b = Builder::default();
+    for i in 0..terms {
+        b.reg(0).reg(1).op(LT).reg(0).reg(1).op(LT).op(EQ);
+        for _ in 0..(i + 1).trailing_zeros() { b.op(OR); }
+    }
+    b
+}
+
 /// A shallow tree of exactly so many nodes, of one operator and of Not where
 /// that does not come out even.
 pub fn full(kind: u64, nodes: usize) -> Builder {
@@ -31,6 +43,16 @@ fn grow(b: &mut Builder, kind: u64, nodes: usize) {
     if nodes <= a { grow(b, kind, nodes - 1); b.op(NOT); return }
     for c in 0..a { grow(b, kind, (nodes - 1 + c) / a) }
     b.op(kind);
+}
+
+/// Eq of a shallow tree of Add and a chain, of so many nodes in all; the chain
+/// is without its first level, in place of which Eq stands.
+pub fn beside(levels: &[(u64, usize)], nodes: usize) -> Builder {
+    let chain = links(&levels[1..], (REF, 0));
+    let mut b = full(ADD, nodes - 1 - chain.words.len() / 4);
+    for node in chain.words.chunks(4) { b.node(node[0], node[1]); }
+    b.op(EQ);
+    b
 }
 
 /// A chain whose levels, from the root down, are of the given kinds, the

@@ -35,7 +35,7 @@ impl Fuzz {
         let words = 8 * 4 * (tables::MAX_NODES + 64);
         Fuzz {
             r: Rng(seed), oracle: Oracle::new(), nodes: Fence::new(words), code: Fence::new(words), kinds: Fence::new(1 << 17), payloads: Fence::new(1 << 20),
-            slot_kinds: Fence::new(1 << 16), slot_payloads: Fence::new(1 << 17), jumps: Fence::new(1 << 16), cells: Fence::new(64), numbers: [0; 256],
+            slot_kinds: Fence::new(1 << 16), slot_payloads: Fence::new(1 << 17), jumps: Fence::new(words / 4), cells: Fence::new(64), numbers: [0; 256],
         }
     }
 
@@ -68,7 +68,7 @@ impl Fuzz {
             9 => { let n = self.length(40); Job { table: (0..n).map(|_| self.r.below(30)).collect(), ..job } }
             10 => { let n = self.length(40); Job { table: (0..n).map(|_| self.any()).collect(), ..job } }
             _ if self.r.chance(1) => {
-                // copies of the table: 4,096 nodes and a little more
+                // copies of the table: as many nodes as it may have, and a little more
                 let n = 4 * (tables::MAX_NODES + self.r.below(3) as usize) + self.r.below(4) as usize;
                 Job { table: job.table.iter().copied().cycle().take(n).collect(), ..job }
             }

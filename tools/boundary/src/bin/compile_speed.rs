@@ -38,7 +38,7 @@ fn measure(name: &str, jobs: &[Job], rounds: u64) {
     let mut ways: [Way; 4] = [
         Way { name: "tight", lent: rooms(&|_, c| Room::new(c.words.len(), c.consts.len())) },
         Way { name: "4 words, 1 slot a node", lent: rooms(&|n, _| Room::new(4 * n, n)) },
-        Way { name: "for any table", lent: vec![Made::lend(Room::new(4 * MAX_NODES, MAX_NODES))] },
+        Way { name: "for 4,096 nodes", lent: vec![Made::lend(Room::new(4 * 4_096, 4_096))] },
         Way { name: "tight, jumps lent", lent: rooms(&|n, c| Room { jumps: Some(n.div_ceil(2)), ..Room::new(c.words.len(), c.consts.len()) }) },
     ];
     // short turns, so that some of them are not interrupted

@@ -227,7 +227,7 @@ impl Large {
 
     fn random(&mut self, jobs: u64) {
         for i in 0..jobs {
-            let mut job = good(&mut self.r, MAX_NODES);
+            let mut job = good(&mut self.r, 4_096);
             if i % 3 == 2 { job = damage(&mut self.r, &job) }
             // the job's own room, where it has one
             if job.max_words.min(job.max_slots) < usize::MAX {
@@ -254,6 +254,21 @@ impl Large {
         }
     }
 
+    /// Shallow tables of so many nodes.
+    fn wide(&mut self, nodes: usize, kinds: &[u64], typed: &[u64]) {
+        // a power of two of Refs, with one node less of Or
+        let refs = 1 << ((nodes as u64 + 1) / 2).ilog2();
+        let mut t = boundary::shapes::junctions(refs, OR);
+        while t.words.len() / 4 < nodes { t.op(NOT); }
+        self.rooms(&mut t.job(3));
+        for kind in kinds { self.rooms(&mut boundary::shapes::full(*kind, nodes).job(2)); }
+        for typed in typed {
+            let table = tree(&mut self.r, Shape { nodes, depth: MAX_DEPTH, base: 4, typed: *typed });
+            let mut job = Job { table, ..Builder::default().job(4) };
+            if let Some(c) = self.rooms(&mut job) { self.random_runs(&job, &c) }
+        }
+    }
+
     /// Document 01's limits: samples 11 to 14, and what lies beside them.
     fn limits(&mut self) {
         let b = Builder::default;
@@ -277,13 +292,13 @@ impl Large {
             }
         }
         // lengths that are no table
-        for n in (0..9).chain([16_383, 16_384, 16_385, 16_388]) {
+        for n in (0..9).chain([4 * MAX_NODES - 1, 4 * MAX_NODES, 4 * MAX_NODES + 1, 4 * MAX_NODES + 4]) {
             let mut job = b().op(NIL).job(1);
             job.table = job.table.into_iter().cycle().take(n).collect();
             self.rooms(&mut job);
         }
-        // depth 63, 64, 65 in every kind, to the left and to the right
-        for depth in [63, 64, 65] {
+        // one level less than may be, as many, one more, in every kind, to the left and to the right
+        for depth in [MAX_DEPTH - 1, MAX_DEPTH, MAX_DEPTH + 1] {
             for kind in MINUS..=TERNARY {
                 for place in 0..arity(kind).unwrap() {
                     for leaf in [(REF, 0), (TRUE, 0), (INT, 1 << 40), (INT, 5), (FLOAT, 1)] {
@@ -293,18 +308,14 @@ impl Large {
                 }
             }
         }
-        // 4,095 to 4,097 nodes: 2,048 jumps pending at once; every kind; any
-        for extra in 0..3 {
-            let mut t = boundary::shapes::junctions(2_048, OR);
-            for _ in 0..extra { t.op(NOT); }
-            self.rooms(&mut t.job(3));
-            for kind in BIT_AND..=TERNARY { self.rooms(&mut boundary::shapes::full(kind, 4_095 + extra).job(2)); }
-            for typed in [0, 80, 100] {
-                let table = tree(&mut self.r, Shape { nodes: 4_095 + extra, depth: MAX_DEPTH, base: 4, typed });
-                let mut job = Job { table, ..b().job(4) };
-                if let Some(c) = self.rooms(&mut job) { self.random_runs(&job, &c) }
-            }
-        }
+        // around the length of each jump list: half of the nodes are jumps that are pending at once; every kind; any
+        for nodes in [64, 512, 4_096] { for extra in 0..3 { self.wide(nodes - 1 + extra, &(BIT_AND..=TERNARY).collect::<Vec<_>>(), &[0, 80, 100]) } }
+        // as many nodes as may be, one less, one more: a few kinds, for the time's sake
+        for extra in 0..3 { self.wide(MAX_NODES - 1 + extra, &[LT, OR, TERNARY], &[80]) }
+        // a jump over as many words as there can be
+        let mut far = boundary::shapes::equal_tests(8_192).job(2);
+        let c = self.rooms(&mut far).expect("far jumps fit");
+        self.random_runs(&far, &c);
         // samples 13 and 14
         for n in [63, 64] {
             let mut job = b().reg(0).int(n).op(LSHIFT).job(1);

@@ -14,24 +14,23 @@ use std::io::BufRead;
 use tables::gen::{Rng, FLOATS};
 use tables::*;
 
-const SIZE: usize = 256 << 10;
 /// A byte that is written with what stood there does not show: two patterns.
 const PAINTS: [u64; 2] = [0xA5A5_A5A5_A5A5_A5A5, 0x5A5A_5A5A_5A5A_5A5A];
 
-/// A stack for each pattern. The words at `TOP` are the arguments that do not
+/// A stack for each pattern. The words at the top are the arguments that do not
 /// go into registers.
 struct Stack([Vec<u64>; 2]);
-const TOP: usize = SIZE / 8 - 32;
+const ARGUMENTS: usize = 32;
 
 impl Stack {
-    fn new() -> Stack { Stack(PAINTS.map(|p| vec![p; SIZE / 8 + 2])) }
+    fn new(kib: usize) -> Stack { Stack(PAINTS.map(|p| vec![p; kib * 128 + 2])) }
 
     /// Bytes that the call of `f` changes below its caller.
     fn call(&mut self, f: usize, args: &[u64]) -> (u8, usize) {
         let mut out = (0, 0);
         for (stack, paint) in self.0.iter_mut().zip(PAINTS) {
             // the stack pointer is a multiple of 16 at a call
-            let first = TOP + stack.as_ptr() as usize / 8 % 2;
+            let first = stack.len() - 2 - ARGUMENTS + stack.as_ptr() as usize / 8 % 2;
             stack[first..first + args.len() - 6].copy_from_slice(&args[6..]);
             let top = &mut stack[first] as *mut u64;
             let number: u64;
@@ -151,14 +150,25 @@ fn measure(s: &mut Stack, limit: Limit, random: u64, nodes: &mut ByNodes) -> Mos
     m
 }
 
-/// docs/STACK.md's bound by the number of nodes, held to every table that is measured.
+/// What docs/STACK.md tells a caller by the number of nodes, held to every table that is measured.
 struct ByNodes { over: Vec<String> }
 
-/// For each of `NAMES`: bytes whatever the table, and bytes a node.
-const TOLD: [(usize, usize); 4] = [(17_920, 480), (1_024, 480), (256, 240), (1_024, 0)];
+/// For each of `NAMES`: bytes whatever the table, and bytes a node; for compile also those of the jump list that it brings.
+const TOLD: [(usize, usize); 4] = [(2_048, 480), (1_024, 480), (256, 240), (1_024, 0)];
+
+/// A jump list of crates/compile: for up to so many nodes; its bytes, and what a table of so many nodes reserves at most.
+struct List { nodes: usize, bytes: usize, reserve: usize }
+const LISTS: [List; 4] = [List { nodes: 64, bytes: 256, reserve: 40 << 10 }, List { nodes: 512, bytes: 2_560, reserve: 144 << 10 },
+    List { nodes: 4_096, bytes: 17_408, reserve: 160 << 10 }, List { nodes: MAX_NODES, bytes: 264_192, reserve: RESERVE[0] }];
 
 impl ByNodes {
-    fn bound(n: usize) -> Taken { TOLD.map(|(all, each)| all + each * n) }
+    fn bound(n: usize) -> Taken {
+        let mut told = TOLD.map(|(all, each)| all + each * n);
+        let list = LISTS.iter().find(|l| n <= l.nodes).unwrap();
+        told[0] = (told[0] + list.bytes).min(list.reserve);
+        for (t, r) in told.iter_mut().zip(RESERVE) { *t = r.min(*t) }
+        told
+    }
     fn meet(&mut self, n: usize, bytes: Taken, what: &str) {
         for (i, (b, most)) in bytes.into_iter().zip(Self::bound(n)).enumerate() {
             if b > most { self.over.push(format!("{}: {n} nodes, {what}: {b} bytes, and {most} are told", NAMES[i])) }
@@ -175,7 +185,7 @@ struct Frame { most: i64, calls: BTreeMap<String, i64> }
 /// is taken to stand at the depth of the function's body.
 fn read_frames() -> BTreeMap<String, Frame> {
     let mut all: BTreeMap<String, Frame> = BTreeMap::new();
-    let (mut name, mut now, mut body, mut taken) = (String::new(), 8, 8, false);
+    let (mut name, mut now, mut body, mut taken, mut pages) = (String::new(), 8, 8, false, None);
     for line in std::io::stdin().lock().lines().map(|l| l.unwrap()) {
         if let Some((_, n)) = line.strip_suffix(">:").and_then(|l| l.split_once('<')) { (name, now, body, taken) = (n.into(), 8, 8, false); all.entry(n.into()).or_default(); continue }
         let Some((_, insn)) = line.split_once(":\t") else { continue };
@@ -185,7 +195,10 @@ fn read_frames() -> BTreeMap<String, Frame> {
         match op {
             "push" => { now += 8; if !taken { body = now } }
             "pop" => now -= 8,
-            "sub" if rest.ends_with(",%rsp") => { (now, taken) = (now + imm(rest), true); body = body.max(now) }
+            // a large array is taken page by page, in a loop down to %r11
+            "mov" if rest == "%rsp,%r11" => pages = Some(0),
+            "sub" if rest.ends_with(",%r11") && pages == Some(0) => pages = Some(imm(rest)),
+            "sub" if rest.ends_with(",%rsp") => { (now, taken) = (now + pages.take().unwrap_or_else(|| imm(rest)), true); body = body.max(now) }
             "add" if rest.ends_with(",%rsp") => now -= imm(rest),
             _ => {}
         }
@@ -230,9 +243,10 @@ fn frames() {
         let most = match deepest(&all, r, &mut vec![]) {
             Some((bytes, way)) => { println!("{r}: no recursion, {bytes} bytes at most: {}", way.join(" > ")); bytes }
             None => {
-                let (before, level, below, cycle) = recursion(&all, r);
-                let bytes = before + MAX_DEPTH as i64 * level + below;
-                println!("{r}: {before} before and {below} below the recursion, {level} a level ({}): {bytes} bytes at most at depth {MAX_DEPTH}", cycle.join(" + "));
+                let cycles = cycles(&all, r);
+                let bytes = bound(&all, &cycles, r);
+                for c in &cycles { println!("{r}: at most {} times: {} ({} bytes)", c.times, c.names.join(" + "), c.bytes(&all)) }
+                println!("{r}: {bytes} bytes at most");
                 bytes
             }
         };
@@ -243,11 +257,18 @@ fn frames() {
     runner::finish(format!("frames: {} functions, {over} over what docs/STACK.md tells a caller", roots.len()), over)
 }
 
-/// For a function that recurses: the bytes before the first of the functions
-/// that come back to themselves, what those take together (each comes at most
-/// once a level, since the measure that is proved to fall is made of depth
-/// and rule), and what the deepest call out of them takes.
-fn recursion(all: &BTreeMap<String, Frame>, root: &str) -> (i64, i64, i64, Vec<String>) {
+/// Functions that call one another, and how often each can be under way at
+/// once. Of the rules and the evaluator each comes at most once a level, since
+/// the measure that is proved to fall is made of depth and rule; the choice of a
+/// jump list calls itself for 64, 512, 4,096 and 32,768 nodes.
+struct Cycle { names: Vec<String>, times: i64 }
+
+impl Cycle {
+    fn bytes(&self, all: &BTreeMap<String, Frame>) -> i64 { self.names.iter().map(|f| all[f].most).sum() }
+}
+
+/// The cycles that a function reaches.
+fn cycles(all: &BTreeMap<String, Frame>, root: &str) -> Vec<Cycle> {
     let reaches = |from: &str| {
         let mut seen: Vec<&String> = vec![];
         let mut todo: Vec<&String> = all[from].calls.keys().collect();
@@ -258,43 +279,69 @@ fn recursion(all: &BTreeMap<String, Frame>, root: &str) -> (i64, i64, i64, Vec<S
         }
         seen.into_iter().cloned().collect::<Vec<_>>()
     };
-    let cycle: Vec<String> = reaches(root).into_iter().filter(|f| all.contains_key(f) && reaches(f).contains(f)).collect();
-    let below = cycle.iter().flat_map(|f| all[f].calls.iter().filter(|c| !cycle.contains(c.0)).map(move |(to, at)| (f, to, at)))
-        .map(|(f, to, at)| at - all[f].most + deepest(all, to, &mut vec![]).map_or(0, |d| d.0)).max().unwrap_or(0).max(0);
-    (before(all, root, &cycle).unwrap_or(0), cycle.iter().map(|f| all[f].most).sum(), below, cycle)
+    let mut out: Vec<Cycle> = vec![];
+    for f in reaches(root).into_iter().filter(|f| all.contains_key(f) && reaches(f).contains(f)) {
+        if out.iter().any(|c| c.names.contains(&f)) { continue }
+        let names: Vec<String> = reaches(&f).into_iter().filter(|g| all.contains_key(g) && reaches(g).contains(&f)).collect();
+        let times = if names == ["compile::listed"] { 4 } else { MAX_DEPTH as i64 };
+        out.push(Cycle { names, times })
+    }
+    out
 }
 
-/// The most that is taken on the way from a function into the cycle.
-fn before(all: &BTreeMap<String, Frame>, f: &str, cycle: &[String]) -> Option<i64> {
-    if cycle.iter().any(|c| c == f) { return Some(0) }
-    all.get(f)?.calls.iter().filter_map(|(to, at)| Some(at + before(all, to, cycle)?)).max()
+/// The most that a function takes, with each cycle as often as it can come.
+fn bound(all: &BTreeMap<String, Frame>, cycles: &[Cycle], f: &str) -> i64 {
+    let Some(frame) = all.get(f) else { return 8 };
+    let Some(c) = cycles.iter().find(|c| c.names.iter().any(|n| n == f)) else {
+        return frame.calls.iter().map(|(to, at)| at + bound(all, cycles, to)).max().unwrap_or(0).max(frame.most)
+    };
+    let out = c.names.iter().flat_map(|g| all[g].calls.iter().filter(|call| !c.names.contains(call.0)).map(move |(to, at)| (g, to, at)));
+    let below = out.map(|(g, to, at)| at - all[g].most + bound(all, cycles, to)).max().unwrap_or(0).max(0);
+    c.times * c.bytes(all) + below
 }
 
 /// What docs/STACK.md tells a caller to reserve, in the order of `NAMES`.
-const RESERVE: Taken = [64 << 10, 48 << 10, 16 << 10, 1 << 10];
+const RESERVE: Taken = [416 << 10, 144 << 10, 48 << 10, 1 << 10];
+
+/// A chain as deep as may be that takes most of compile_with: comparisons, to
+/// the right, over one And.
+fn deepest_chain(s: &mut Stack) -> Vec<Level> {
+    let of = MAX_DEPTH as usize - 1;
+    let chains = levels().into_iter().map(|a| (0..of).map(|i| level(1, a, (AND, 0), i, of)).collect::<Vec<_>>());
+    chains.max_by_key(|c| taken(s, &shapes::links(c, LEAVES[0]), &[])[1]).unwrap()
+}
 
 fn main() {
     if std::env::args().nth(1).as_deref() == Some("frames") { return frames() }
     let [random] = runner::numbers([3_000]);
-    let (mut s, mut nodes) = (Stack::new(), ByNodes { over: vec![] });
+    let (mut s, mut nodes) = (Stack::new(64), ByNodes { over: vec![] });
     let mut rows: Vec<(String, Most)> = vec![];
     for n in [1, 2, 4, 8, 16, 32, 64] {
         rows.push((format!("{n} nodes"), measure(&mut s, Limit { depth: 64, nodes: n }, random, &mut nodes)));
     }
-    for depth in [16, 64] {
-        rows.push((format!("depth {depth}"), measure(&mut s, Limit { depth, nodes: MAX_NODES }, random, &mut nodes)));
+    let mut deep = Stack::new(256);
+    for depth in [1, 16, 64, MAX_DEPTH as usize] {
+        let stack = if depth > 16 { &mut deep } else { &mut s };
+        rows.push((format!("depth {depth}"), measure(stack, Limit { depth, nodes: MAX_NODES }, random, &mut nodes)));
     }
-    // many nodes, which bring the large jump list
-    let most = &mut rows.last_mut().unwrap().1;
-    for kind in [OR, LT, TERNARY] { most.meet(taken(&mut s, &shapes::full(kind, MAX_NODES), &LOCALS), &format!("kind {kind}, 4,096 nodes")) }
+    // the deepest chain for compile_with, in tables of as many nodes as each jump list is for
+    let chain = deepest_chain(&mut deep);
+    let mut wide = Stack::new(640);
+    for n in LISTS.map(|l| l.nodes).into_iter().skip(1) {
+        let mut most = Most::default();
+        let full = [OR, LT, TERNARY].map(|kind| (shapes::full(kind, n), format!("kind {kind}")));
+        for (b, name) in full.into_iter().chain([(shapes::beside(&chain, n), "the deepest chain beside a shallow tree".into())]) {
+            let bytes = taken(&mut wide, &b, &LOCALS);
+            most.meet(bytes, &name);
+            nodes.meet(n, bytes, &name);
+        }
+        rows.push((format!("{n} nodes"), most));
+    }
     println!("the most for each row, and the chain that takes it; a level is (kind, place of the deeper child)");
     println!("{:<10} {}", "bytes", NAMES.map(|n| format!("{n:>13}")).join(""));
     for (name, most) in &rows {
         println!("{name:<10} {}", most.0.iter().map(|m| format!("{:>13}", m.0)).collect::<String>());
         for (i, m) in most.0.iter().enumerate() { println!("  {:<13} {}", NAMES[i], m.1) }
-    }
-    for (i, (bytes, _)) in rows.last().unwrap().1 .0.iter().enumerate() {
-        if *bytes > RESERVE[i] { nodes.over.push(format!("{}: more than the {} that a caller reserves", NAMES[i], RESERVE[i])) }
     }
     for o in nodes.over.iter().take(20) { println!("{o}") }
     runner::finish(format!("stack: {} over what docs/STACK.md tells a caller", nodes.over.len()), nodes.over.len())

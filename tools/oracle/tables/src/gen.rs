@@ -278,7 +278,7 @@ pub fn damage(r: &mut Rng, job: &Job) -> Job {
         7 => j.table[at + 2] = r.pick(&[0, at as u64 / 4, at as u64 / 4 + 1, u64::MAX]),
         8 => j.table[at + 2] = j.table[at + 2].wrapping_add(r.pick(&[1, u64::MAX])),
         9 => j.table[at + 3] = j.table[at + 3].wrapping_add(r.pick(&[1, u64::MAX])),
-        10 => j.table[at + 3] = r.pick(&[0, 1, 64, 65, u64::MAX]),
+        10 => j.table[at + 3] = r.pick(&[0, 1, MAX_DEPTH, MAX_DEPTH + 1, u64::MAX]),
         11 => { j.table.drain(at..at + 4); }
         12 => { let four = [r.below(6), 0, n as u64, 1]; j.table.extend(four) }
         13 => { j.params = 0; j.locals = r.below(3) }

@@ -7,8 +7,8 @@ pub mod opcodes;
 pub mod small;
 
 /// Document 01's limits.
-pub const MAX_NODES: usize = 4_096;
-pub const MAX_DEPTH: u64 = 64;
+pub const MAX_NODES: usize = 65_536;
+pub const MAX_DEPTH: u64 = 200;
 pub const MAX_REGS: u64 = 65_535;
 
 /// A refusal's number. It also travels as a panic payload through the given

@@ -20,7 +20,7 @@ fn time(per_run: usize, runs: usize, nodes: usize, mut f: impl FnMut()) -> Strin
 }
 
 fn main() {
-    for (size, tables_n, per_run) in [(10, 300, 40), (1_000, 20, 8), (4_096, 5, 8)] {
+    for (size, tables_n, per_run) in [(10, 300, 40), (1_000, 20, 8), (4_096, 5, 8), (60_000, 2, 1)] {
         for typed in [0, 97] {
             let jobs: Vec<Job> = (0..tables_n).map(|i| {
                 let table = tree(&mut Rng(1000 + i), Shape { nodes: size, depth: MAX_DEPTH, base: 4, typed });

@@ -19,7 +19,7 @@ fn main() {
     let (mut accepted, mut nodes, mut words, mut unexplained) = (0, 0, 0, 0);
     let (mut most_words, mut farthest) = (0.0f64, 0i64);
     for i in 0..jobs {
-        let mut job = good(&mut r, MAX_NODES);
+        let mut job = good(&mut r, 4_096);
         if i % 3 == 2 { job = damage(&mut r, &job) }
         let (a, b) = (p.compile(&job), h.compile(&job));
         let mut seen = vec![];

@@ -80,15 +80,15 @@ fn main() {
     say("11 refused", c == Err(Refused(5)), format!("{c:?}"));
 
     let chain = |n: usize| { let mut t = b(); t.reg(0); for _ in 1..n { t.op(MINUS); } t.job(1) };
-    let c = compile(&chain(64));
-    say("12 depth 64", c.is_ok(), format!("{} words", c.unwrap().words.len()));
-    let c = compile(&chain(65));
-    say("12 depth 65", c == Err(Refused(3)), format!("{c:?}"));
-    let wide = |nodes: usize| Builder { words: gen::tree(&mut gen::Rng(1), gen::Shape { nodes, depth: 64, base: 2, typed: 0 }) }.job(2);
-    let c = compile(&wide(4096));
-    say("12 4,096 nodes", c.is_ok(), format!("{} words", c.unwrap().words.len()));
-    let c = compile(&wide(4097));
-    say("12 4,097 nodes", c == Err(Refused(1)), format!("{c:?}"));
+    let c = compile(&chain(200));
+    say("12 depth 200", c.is_ok(), format!("{} words", c.unwrap().words.len()));
+    let c = compile(&chain(201));
+    say("12 depth 201", c == Err(Refused(3)), format!("{c:?}"));
+    let wide = |nodes: usize| Builder { words: gen::tree(&mut gen::Rng(1), gen::Shape { nodes, depth: MAX_DEPTH, base: 2, typed: 0 }) }.job(2);
+    let c = compile(&wide(65_536));
+    say("12 65,536 nodes", c.is_ok(), format!("{} words", c.unwrap().words.len()));
+    let c = compile(&wide(65_537));
+    say("12 65,537 nodes", c == Err(Refused(1)), format!("{c:?}"));
 
     let c = compile(&b().reg(0).int(63).op(LSHIFT).job(1)).unwrap();
     say("13 folds", lines(&c.words) == ["lshift_imm 1, 0, 63"], format!("{:?}", lines(&c.words)));

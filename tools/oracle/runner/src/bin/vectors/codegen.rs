@@ -117,18 +117,18 @@ fn limits(out: &mut Out) {
     for (params, locals) in [(65_535, 1), (1, 65_535), (1 << 32, 1 << 32), (u64::MAX, 0), (u64::MAX, 1), (u64::MAX, u64::MAX)] {
         out.lend(&Job { params, locals, ..b().op(NIL).job(0) }, 2, 1)
     }
-    for n in [64, 65] {
+    for n in [MAX_DEPTH, MAX_DEPTH + 1] {
         let mut t = b();
         t.reg(0);
         for _ in 1..n { t.op(MINUS); }
         out.roomy(&t.job(1));
         // as many temporaries as a table can take
         let mut t = b();
-        for _ in 0..n { t.int(1 << 40); }
+        for _ in 0..n { t.int(1 << 20); }
         for _ in 1..n { t.op(EQ); }
         out.roomy(&t.job(1));
     }
-    // 4,096 nodes with 2,048 jumps pending at once, then 4,097
+    // 4,096 nodes with 2,048 jumps pending at once, then 4,097: the last that the third jump list is for, and the first that it is not
     let mut t = b();
     for i in 0..2_048u64 {
         t.reg(i % 3);

@@ -125,7 +125,7 @@ pub fn make() -> Pair {
     // one node, each field spoiled; a payload where none belongs
     for kind in 0..=5u64 {
         let payload = if kind < 3 { 0 } else { 1 };
-        for (at, x) in [(0, 27), (0, u64::MAX), (1, 1), (1, 1 << 63), (2, 1), (2, u64::MAX), (3, 0), (3, 2), (3, 65), (3, u64::MAX), (0, kind)] {
+        for (at, x) in [(0, 27), (0, u64::MAX), (1, 1), (1, 1 << 63), (2, 1), (2, u64::MAX), (3, 0), (3, 2), (3, MAX_DEPTH + 1), (3, u64::MAX), (0, kind)] {
             let mut t = [kind, payload, 0, 1];
             t[at] = x;
             one(&mut out, &t, 1, 1, None, &pairs(&[(2, 5), (2, 6)]));
@@ -153,7 +153,7 @@ pub fn make() -> Pair {
     }
 
     // the limits: depth, nodes, registers
-    for depth in [64, 65] {
+    for depth in [MAX_DEPTH, MAX_DEPTH + 1] {
         for (leaf, op) in [(REF, MINUS), (TRUE, NOT), (TRUE, AND), (FALSE, OR), (FALSE, TERNARY), (INT, ADD)] {
             for right in [false, true] {
                 let mut b = Builder::default();
@@ -174,7 +174,7 @@ pub fn make() -> Pair {
         for _ in 0..(i + 1).trailing_zeros() { b.op(ADD); }
     }
     for _ in 0..2 {
-        // 4,096 nodes, then 4,097
+        // 4,096 nodes, then 4,097: no limit any more, and still the widest that are here
         b.op(MINUS);
         one(&mut out, &b.words, 2, 1, None, &pairs(&[(2, 3), (2, 5), (3, 0x4004_0000_0000_0000)]));
     }
@@ -198,7 +198,8 @@ pub fn make() -> Pair {
         one(&mut out, &job.table, job.params, job.locals, job.dst, &lent);
     }
     assert!(2 * ended.0 > ended.1, "most random runs end in a value: {ended:?}");
-    for what in ["check 0", "check 1, empty", "check 1, not a multiple of 4 words", "check 1, too many nodes", "check 2, unknown kind", "check 2, payload", "check 2, not finite",
+    // too many nodes are 2 MB: tests/c and tools/large.sh have them
+    for what in ["check 0", "check 1, empty", "check 1, not a multiple of 4 words", "check 2, unknown kind", "check 2, payload", "check 2, not finite",
                  "check 2, missing child", "check 2, first", "check 2, depth", "check 2, last node's first", "check 3, too deep", "check 4, destination",
                  "check 4, Ref", "check 5, layout"] { out.must_meet(what) }
     for n in (0..=5).chain(20..=24).chain([26, 29]) { out.must_meet(&format!("evaluate {n}")) }
