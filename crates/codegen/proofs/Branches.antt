@@ -162,7 +162,7 @@ module _ {ws c k p : List ℕ} {i : ℕ} {st : St} (ready : Ready ws (bufs c k p
           (js : List ℕ) → take n js ≡ take n l → drop n js ≡ m → {sm : Bool} → sm ≡ same by sense →
           {c3 js' : List ℕ} {r : Jumps} → Joined c2 c3 js js' sm n y r → Lists (bufs c3 k2 p2) js' r (branchAt ws i sense room start)
       unfolding junctionB
-      junction-branch {n} {s} got {b} {room'} right e {c2} {k2} {m} {y} two js front back {sm} sames g =
+      junction-branch {n} {s} got {b} {room'} right e {c2} {k2} {p2} {m} {y} two js front back {sm} sames g =
           let S : State = stOf (bufs c1 k1 p1) s in
           let f : List ℕ × State → Res (List ℕ × State) = junctionTo (same by sense) (take n l) in
           let p = g k2 p2 (subst (λ (q : List ℕ). FitJumps (bufs c2 k2 p2) q y) (sym back) (two .fit)) in

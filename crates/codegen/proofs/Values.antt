@@ -168,10 +168,10 @@ module _ {ws c k p : List ℕ} {i : ℕ} {st : St} (ready : Ready ws (bufs c k p
             h
 
 -- a move
-pub into-value : {ws : List ℕ} (i d room : ℕ) (start : State) {c1 k1 p1 c2 : List ℕ} {x r : Ans} → Says (bufs c1 k1 p1) x (valueAt ws i (To d) room start) →
+pub into-value : (ws : List ℕ) (i d room : ℕ) (start : State) {c1 k1 p1 c2 : List ℕ} {x r : Ans} → Says (bufs c1 k1 p1) x (valueAt ws i (To d) room start) →
     After c1 c2 x r (moveTo d (start .next)) → Says (bufs c2 k1 p1) r (intoD (valueAt ws i) d room start)
 unfolding intoD
-into-value {ws} i d room start {k1 = k1} {p1 = p1} h g = chain (moveTo d (start .next)) h (g k1 p1)
+into-value ws i d room start {k1 = k1} {p1 = p1} h g = chain (moveTo d (start .next)) h (g k1 p1)
 
 -- the arms of a ternary: the then side, the turn, the else side, the end
 module _ {ws : List ℕ} {i : ℕ} (d room : ℕ) (js : List ℕ) (start : State)

@@ -92,7 +92,7 @@ module _ {ws : List ℕ} {i t : ℕ} (r : ℕ) (here : level ws i r ≡ t) where
     child-into = lower (child .of (ready .base) (ready .node)) 8 (omega arith)
 
   pub operand-operand : (c k p : List ℕ) {j : ℕ} {st : St} {tail : Tail} → Operand ws i tail j → Ready ws (bufs c k p) i st → level ws j (operandRank ws j) < t
-  operand-operand c k o ready = operand-lower (o .of (ready .base) (ready .node))
+  operand-operand c k p o ready = operand-lower (o .of (ready .base) (ready .node))
 
 -- at the node itself the ranks fall from rule to rule
 cond-of : (t : List ℕ) (i x y : ℕ) → 17 < kindAt t i → kindAt t i ≤ 25 → byKind t i x y ≡ x
@@ -157,11 +157,11 @@ not-cond t i x y nc nj =
 -- the node that a test tests: a child, or the node itself, where the ranks fall
 pub tested-operand : {ws : List ℕ} {i j t : ℕ} (c k p : List ℕ) {st : St} → level ws i (testRank ws i) ≡ t → Tested ws i j → isJunction (kindAt ws i) ≡ false → Ready ws (bufs c k p) i st →
     level ws j (operandRank ws j) < t
-tested-operand {ws} {i} {j} {t} c k e tested nj ready =
+tested-operand {ws} {i} {j} {t} c k p e tested nj ready =
     ⊎-elim
     (λ of. operand-lower (testRank ws i) e (of (ready .base) (ready .node)))
     (λ own.
-    let p : testRank ws i ≡ 5 = not-cond ws i 3 5 (own .1) nj in
+    let m : testRank ws i ≡ 5 = not-cond ws i 3 5 (own .1) nj in
     let q : valueRank ws i ≡ 3 = not-cond ws i 7 3 (own .1) nj in
     let z : level ws i (operandRank ws i) < t = omega arith in
     subst (λ (n : ℕ). level ws n (operandRank ws n) < t) (sym (own .0)) z)
