@@ -15,13 +15,15 @@ pub struct Actor
     pub consts: Vec<Value>,
     pub max_words: usize,
     pub max_slots: usize,
+    /// whether equal constants share a slot (02, W2)
+    pub shares: bool,
 }
 
 impl Actor
 {
     pub fn new() -> Self
     {
-        Actor { insns: vec![], alloc: Alloc::new(), consts: vec![], max_words: usize::MAX, max_slots: usize::MAX }
+        Actor { insns: vec![], alloc: Alloc::new(), consts: vec![], max_words: usize::MAX, max_slots: usize::MAX, shares: crate::SHARES }
     }
 
     pub fn push_insn(&mut self, insn: Insn, _pos: SrcPos)
@@ -30,9 +32,13 @@ impl Actor
         self.insns.push(insn);
     }
 
-    /// (house) a fresh slot
+    /// (house) the first slot of the same kind and payload, bit for bit, or a fresh one
     pub fn push_const(&mut self, val: Value) -> u32
     {
+        if self.shares {
+            let same = |c: &Value| crate::pair(*c) == crate::pair(val);
+            if let Some(slot) = self.consts.iter().position(same) { return slot as u32 }
+        }
         if self.consts.len() >= self.max_slots { std::panic::panic_any(Refused(6)) }
         self.consts.push(val);
         (self.consts.len() - 1) as u32
