@@ -13,7 +13,7 @@
  *   - It reads and writes only what it is lent. It allocates nothing, keeps nothing, has no state, and calls nothing but memset. So any number of
  *     threads may call at once, each with buffers of its own; a buffer that is only read may be shared.
  *   - Every result cell is written: it holds 0 where the number is not 0, but for the steps and the position of a run, which a stopped run has too.
- *   - Its stack is bounded: recursion ends at VOSEMAQE_MAX_DEPTH. 64 KiB are room for every function and every table; docs/STACK.md has the figures.
+ *   - Its stack is bounded: recursion ends at VOSEMAQE_MAX_DEPTH. 80 KiB are room for every function and every table; docs/STACK.md has the figures.
  *
  * WHAT THE CALLER OWES
  *

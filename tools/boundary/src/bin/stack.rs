@@ -155,7 +155,7 @@ fn measure(s: &mut Stack, limit: Limit, random: u64, nodes: &mut ByNodes) -> Mos
 struct ByNodes { over: Vec<String> }
 
 /// For each of `NAMES`: bytes whatever the table, and bytes a node.
-const TOLD: [(usize, usize); 4] = [(17_920, 480), (1_024, 480), (256, 240), (1_024, 0)];
+const TOLD: [(usize, usize); 4] = [(17_920, 624), (1_024, 624), (256, 240), (1_024, 0)];
 
 impl ByNodes {
     fn bound(n: usize) -> Taken { TOLD.map(|(all, each)| all + each * n) }
@@ -271,7 +271,7 @@ fn before(all: &BTreeMap<String, Frame>, f: &str, cycle: &[String]) -> Option<i6
 }
 
 /// What docs/STACK.md tells a caller to reserve, in the order of `NAMES`.
-const RESERVE: Taken = [64 << 10, 48 << 10, 16 << 10, 1 << 10];
+const RESERVE: Taken = [80 << 10, 64 << 10, 16 << 10, 1 << 10];
 
 fn main() {
     if std::env::args().nth(1).as_deref() == Some("frames") { return frames() }
