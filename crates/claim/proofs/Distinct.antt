@@ -6,7 +6,7 @@ use Prim.Native.Nat.{ℕ, zero, suc, _+_, _≤_, _<_}
 use native.Mathlib.Decide.{decLt}
 use native.Mathlib.Omega.{arith as linear}
 use lib.Dec.{ltb}
-use lib.IntN.{ℤ, pos, negsuc}
+use lib.IntN.{ℤ}
 use lib.ListN.{length, getD, length-append, List·getD-append}
 use lib.Seq.{getD-at}
 use borrow.Author.Tests.{eq-eqb}
@@ -28,7 +28,8 @@ use Rattle.fold.specs.Literal.{fitsImm40, asImm16}
 use Rattle.fold.specs.Fold.{foldOf, minusOne, takesShift}
 use Rattle.fold.specs.Opcodes.{threeOf}
 use Rattle.emit.specs.Steps.{rawTrue, rawFalse}
-use Rattle.emit.specs.State.{State, sameInt, alike, seek, fresh}
+use Rattle.emit.specs.State.{State, alike, seek, fresh}
+use Rattle.emit.proofs.ConstLaws.{int-same}
 use Rattle.codegen.specs.Gen.{same}
 use Rattle.claim.specs.Shared.{Loaded, Shared, SharesSlots}
 use Rattle.claim.proofs.fragments.Frag.{Vf, Bf, ValueF, BranchF, Frag, dReg, dNext, constOp, jmpBy, moved, loadF, leafF, intF, intoF, second, joinF, arithF, tailF, compareF, condF, ternF, juncB, unaryN, binaryN, frag}
@@ -174,13 +175,9 @@ join-good dst n ks x a b gx ga gb =
     (λ k i. i)
     (λ k i. in-right X rest (in-right (a .code) (jmpBy (length (b .code)) ∷ b .code) (in-right (jmpBy (length (b .code)) ∷ []) (b .code) i)))
 
-int-self : (z : ℤ) → sameInt z z ≡ true
-int-self (pos a) = eq-eqb a a refl
-int-self (negsuc a) = eq-eqb a a refl
-
 int-good : (t : Bool) (z : ℤ) → GoodV (intF t z)
 int-good true z dst n ks = nothing ks _
-int-good false z dst n ks = const-good (Val.int z) (int-self z) ks (dReg dst n)
+int-good false z dst n ks = const-good (Val.int z) (int-same z) ks (dReg dst n)
 
 leaf-good : (l : Leaf) → GoodV (leafF l)
 leaf-good nil dst n ks = nothing ks _

@@ -39,7 +39,7 @@ int-is (pos a) (negsuc b) e = never (sym e)
 int-is (negsuc a) (pos b) e = never (sym e)
 int-is (negsuc a) (negsuc b) e = ap negsuc (eqb-true a b e)
 
-int-same : (a : ℤ) → sameInt a a ≡ true
+pub int-same : (a : ℤ) → sameInt a a ≡ true
 int-same (pos a) = eq-eqb a a refl
 int-same (negsuc a) = eq-eqb a a refl
 
