@@ -236,7 +236,8 @@ void vosemaqe_complete(uint64_t *nodes, uint64_t nodes_len);
 uint8_t vosemaqe_check(const uint64_t *nodes, uint64_t nodes_len, uint64_t params, uint64_t locals, uint64_t dest);
 
 /* Compiles a table. Done: `code` holds *words words and zeros after them; slot_kinds and slot_payloads hold *slots constants and zeros after them;
- * *reg is the register that holds the value after a run (the destination, if one was given), *frame how many registers a run needs. Refused: the number is
+ * *reg is the register that holds the value after a run (the destination, if one was given), *frame how many registers a run needs. Literals of one kind
+ * and payload, bit for bit, share a slot, so no two constants are equal; what stood in the slots before the call is not read. Refused: the number is
  * vosemaqe_check's, or the first of 5, 6, 7 in the order of emission; all of code, slot_kinds, slot_payloads and the cells are zero. */
 uint8_t vosemaqe_compile(const uint64_t *nodes, uint64_t nodes_len, uint64_t params, uint64_t locals, uint64_t dest,
     uint64_t *code, uint64_t code_len, uint8_t *slot_kinds, uint64_t slot_kinds_len, uint64_t *slot_payloads, uint64_t slot_payloads_len,

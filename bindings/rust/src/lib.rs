@@ -198,7 +198,7 @@ pub fn pairs<const N: usize>(values: [Value; N]) -> ([u8; N], [u64; N]) {
 pub struct Compiled {
     /// how many words
     pub words: usize,
-    /// how many constants
+    /// how many constants, no two of them equal
     pub slots: usize,
     /// the register that holds the value after a run
     pub register: usize,

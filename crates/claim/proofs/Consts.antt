@@ -4,12 +4,14 @@ use mathlib.Core.Bool.{Bool, true, false, not, cond}
 use mathlib.Core.List.{List, [], _∷_, _++_, map}
 use Prim.Native.Nat.{ℕ, zero, suc, _+_, _-_, _*_, _<_, _^_}
 use native.Mathlib.Omega.{arith as linear}
+use lib.Dec.{ltb}
 use lib.IntN.{ℤ}
 use lib.ListN.{length, getD, replicate}
 use mir.Syntax.{w64}
 use mir.Val.{SFits}
 use mir.Facts.{sfits-toZ}
 use Rattle.value.specs.Value.{Datum, kindOf, payloadOf, ofPair, datums, allWell}
+use Rattle.value.specs.Value as Val
 use Rattle.value.proofs.RoundTrip as Pair
 use Rattle.table.specs.Table.{kindAt, payloadAt, child1, child2, child3, depthAt}
 use Rattle.table.specs.Tree.{Tree, leaf, unary, binary, ternary, Leaf, nil, yep, nope, int, float, ref, Unary, minus, not′, Cmp, Binary, arith, cmp, and, or, Kind, leafKind, unaryKind, binaryKind, ternaryKind, noKind, kinds, build, treeAt, tree}
@@ -24,6 +26,7 @@ use Rattle.insns.specs.declared.op.Three.{Three}
 use Rattle.fold.specs.Literal.{fitsImm40, asImm16}
 use Rattle.fold.specs.Fold.{foldOf, takesShift}
 use Rattle.fold.specs.Opcodes.{threeOf}
+use Rattle.emit.specs.State.{seek, fresh}
 use Rattle.compile.specs.Buffers.{padded}
 use Rattle.claim.specs.Claim.{Slots}
 use Rattle.claim.proofs.fragments.Frag.{ValueF, BranchF, Frag, dReg, dNext, leafF, intF, intoF, second, arithF, compareF, condF, ternF, juncB, unaryN, binaryN, frag}
@@ -66,16 +69,23 @@ TreeHeld (ternary c a b) = TreeHeld c × TreeHeld a × TreeHeld b
 
 -- ---- the constants of a fragment are the tree's
 
+fresh-held : (t : Bool) (v : Datum) → Pair.Holds v → AllHeld (cond t [] (v ∷ []))
+fresh-held true v h = tt
+fresh-held false v h = (h, tt)
+
+const-held : (v : Datum) → Pair.Holds v → (ks : List Datum) → AllHeld (fresh v ks)
+const-held v h ks = fresh-held (ltb (seek v ks) (length ks)) v h
+
 int-held : (t : Bool) (z : ℤ) → SFits w64 z → HeldV (intF t z)
 int-held true z h dst n ks = tt
-int-held false z h dst n ks = (h, tt)
+int-held false z h dst n ks = const-held (Val.int z) h ks
 
 leaf-held : (l : Leaf) → LeafHeld l → HeldV (leafF l)
 leaf-held nil h dst n ks = tt
 leaf-held yep h dst n ks = tt
 leaf-held nope h dst n ks = tt
 leaf-held (int z) h dst n ks = int-held (fitsImm40 z) z h dst n ks
-leaf-held (float p) h dst n ks = (h, tt)
+leaf-held (float p) h dst n ks = const-held (Val.float p) h ks
 leaf-held (ref r) h dst n ks = tt
 
 two-held : (v u : ValueF) (n : ℕ) (ks : List Datum) → HeldV v → HeldV u → AllHeld (v Any n ks .consts ++ second v u n ks .consts)

@@ -33,7 +33,7 @@ use Rattle.insns.specs.Fields as Fields
 use Rattle.fold.specs.Literal as Literal
 use Rattle.fold.specs.Fold as Fold
 use Rattle.effect.specs.Effect.{effectOf}
-use Rattle.emit.specs.State.{State}
+use Rattle.emit.specs.State.{State, seek}
 use Rattle.claim.specs.Claim.{Accepted}
 use Rattle.claim.specs.Refusals.{needed}
 use Rattle.claim.specs.Emitted.{isEmitted, isNop, opcodeOf, halts, IsEmitted, EmittedBySome, RunsWhatIsEmitted}
@@ -226,7 +226,7 @@ all [] = true
 all (x ∷ xs) = test x && all xs
 
 all-hold : all tables ≡ true
-unfolding all test Faults.fault Faults._or-else_ Table.tempBase Table.arity Table.children Table.spanFault Table.nodeFault Table.nodesFault Table.shapeFault Table.layoutFault Table.destFault Table.lastFault Table.checkOf Tree.kindOf Tree.build Tree.treeAt Tree.tree Bits.twos Bits.isRaw Fields.rawBits Literal.bits Literal.runAt Literal.runFrom Literal.bitRun Literal.litOf Fold.shiftBy Fold.shiftedBy Fold.foldBy frag word
+unfolding all test Faults.fault Faults._or-else_ Table.tempBase Table.arity Table.children Table.spanFault Table.nodeFault Table.nodesFault Table.shapeFault Table.layoutFault Table.destFault Table.lastFault Table.checkOf Tree.kindOf Tree.build Tree.treeAt Tree.tree Bits.twos Bits.isRaw Fields.rawBits Literal.bits Literal.runAt Literal.runFrom Literal.bitRun Literal.litOf Fold.shiftBy Fold.shiftedBy Fold.foldBy seek frag word
 all-hold = refl
 
 has : ℕ → List Sample → Bool

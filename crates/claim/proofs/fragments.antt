@@ -1,4 +1,5 @@
 -- Demand 3, from the ground up: fragments, runs, the laws of values, the induction over trees; the generator's words.
+pub mod Shared
 pub mod Frag
 pub mod Runs
 pub mod Sound

@@ -36,9 +36,9 @@ use Rattle.codegen.proofs.Walk.{junction-over, junction-under}
 abbrev ofBranch : Bool → ℕ → State → Tree → Res (List ℕ × State)
 ofBranch sense room s t = gen t .branch sense room s
 
-module _ {ws c k : List ℕ} {i : ℕ} {st : St} (ready : Ready (bufs ws c k) i st) (sense : Bool) (room : ℕ) where
+module _ {ws c k p : List ℕ} {i : ℕ} {st : St} (ready : Ready ws (bufs c k p) i st) (sense : Bool) (room : ℕ) where
   abbrev start : State
-  start = stOf (bufs ws c k) st
+  start = stOf (bufs c k p) st
 
   -- Not turns the sense round
   pub not-branch : {j : ℕ} → kindAt ws i ≡ 7 → ChildIs ws i (child1 ws i) j → {b : Bufs} {js : List ℕ} {r : Jumps} → Lists b js r (branchAt ws j (not sense) room start) → Lists b js r (branchAt ws i sense room start)
@@ -72,13 +72,13 @@ module _ {ws c k : List ℕ} {i : ℕ} {st : St} (ready : Ready (bufs ws c k) i 
         by (is-binary or v) = clash (binary-code (kindAt ws i) or (v .kind)) refl
         by (is-ternary v) = at (v .is) tt
 
-    pub one-branch : (j : ℕ) {how : How} → pickOf (tree ws i) sense ≡ one (tree ws j) how → {c1 k1 : List ℕ} {x : Ans} → Says (bufs ws c1 k1) x (valueAt ws j Any room start) →
-        {room' : ℕ} → room' ≡ room → {c2 js : List ℕ} {r : Jumps} → AfterJumping c1 c2 js x r (oneTo how room' (st .next)) → Lists (bufs ws c2 k1) js r (branchAt ws i sense room start)
+    pub one-branch : (j : ℕ) {how : How} → pickOf (tree ws i) sense ≡ one (tree ws j) how → {c1 k1 p1 : List ℕ} {x : Ans} → Says (bufs c1 k1 p1) x (valueAt ws j Any room start) →
+        {room' : ℕ} → room' ≡ room → {c2 js : List ℕ} {r : Jumps} → AfterJumping c1 c2 js x r (oneTo how room' (st .next)) → Lists (bufs c2 k1 p1) js r (branchAt ws i sense room start)
     unfolding oneB
-    one-branch j {how} p {k1 = k1} h {room'} e g =
+    one-branch j {how} p {k1 = k1} {p1 = p1} h {room'} e g =
         lists-by
         (ap (λ (q : ℕ). bind (valueAt ws j Any room start) (oneTo how q (st .next))) e ∙ pick-one room start (tree ws i) sense alone p)
-        (chain-lists (oneTo how room' (st .next)) h (g ws k1))
+        (chain-lists (oneTo how room' (st .next)) h (g k1 p1))
 
   -- a branch that compares two values
   module _ (pair : IsPair ws i sense) where
@@ -101,26 +101,26 @@ module _ {ws c k : List ℕ} {i : ℕ} {st : St} (ready : Ready (bufs ws c k) i 
         by and v = absurd (let e = binary-code (kindAt ws i) and (v .kind) in let g = pair .1 in omega numbers)
         by or v = absurd (let e = binary-code (kindAt ws i) or (v .kind) in let g = pair .1 in omega numbers)
 
-    module _ {l : ℕ} (left : ChildIs ws i (child2 ws i) l) {c1 k1 : List ℕ} {x : Ans} (one : Says (bufs ws c1 k1) x (valueAt ws l Any room start)) where
-      pub pair-stop : (js : List ℕ) {n : ℕ} → x ≡ No n → Lists (bufs ws c1 k1) js (J.No n) (branchAt ws i sense room start)
+    module _ {l : ℕ} (left : ChildIs ws i (child2 ws i) l) {c1 k1 p1 : List ℕ} {x : Ans} (one : Says (bufs c1 k1 p1) x (valueAt ws l Any room start)) where
+      pub pair-stop : (js : List ℕ) {n : ℕ} → x ≡ No n → Lists (bufs c1 k1 p1) js (J.No n) (branchAt ws i sense room start)
       unfolding pairB
       pair-stop js e =
           let w = pair-of in
           lists-by (w .1 .is) (stop-lists js (λ q. bind (valueAt ws (child1 ws i) Any room (q .1)) (pairTo (branchOf (w .0) sense) (q .0) room (st .next))) e (left-is room start left one))
 
       pub pair-branch : {a : ℕ} {s : St} → x ≡ Got a s → {r room' room'' : ℕ} → ChildIs ws i (child1 ws i) r → room' ≡ room →
-          {c2 k2 : List ℕ} {y : Ans} → Says (bufs ws c2 k2) y (valueAt ws r Any room' (stOf (bufs ws c1 k1) s)) → room'' ≡ room →
+          {c2 k2 p2 : List ℕ} {y : Ans} → Says (bufs c2 k2 p2) y (valueAt ws r Any room' (stOf (bufs c1 k1 p1) s)) → room'' ≡ room →
           {kd : ℕ} → kd ≡ kindAt ws i → {op : JumpCmp} → ((o : Cmp) → kindOf kd ≡ binaryKind (cmp o) → op ≡ branchOf o sense) →
-          {c3 js : List ℕ} {z : Jumps} → AfterJumping c2 c3 js y z (pairTo op a room'' (st .next)) → Lists (bufs ws c3 k2) js z (branchAt ws i sense room start)
+          {c3 js : List ℕ} {z : Jumps} → AfterJumping c2 c3 js y z (pairTo op a room'' (st .next)) → Lists (bufs c3 k2 p2) js z (branchAt ws i sense room start)
       unfolding pairB
-      pair-branch {a} {s} got {r} {room'} {room''} right e {k2 = k2} two e' kd {op} cmps g =
+      pair-branch {a} {s} got {r} {room'} {room''} right e {k2 = k2} {p2 = p2} two e' kd {op} cmps g =
           let w = pair-of in
           let f : ℕ → ℕ × State → Res (List ℕ × State) = λ b. pairTo (branchOf (w .0) sense) b room (st .next) in
-          let p = chain-lists (pairTo op a room'' (st .next)) two (g ws k2) in
+          let p = chain-lists (pairTo op a room'' (st .next)) two (g k2 p2) in
           let o : op ≡ branchOf (w .0) sense = cmps (w .0) (ap kindOf kd ∙ w .1 .kind) in
           lists-by
-          (ap (λ (q : JumpCmp). bind (valueAt ws r Any room' (stOf (bufs ws c1 k1) s)) (pairTo q a room'' (st .next))) o
-          ∙ ap (λ (q : ℕ). bind (valueAt ws r Any room' (stOf (bufs ws c1 k1) s)) (pairTo (branchOf (w .0) sense) a q (st .next))) e'
+          (ap (λ (q : JumpCmp). bind (valueAt ws r Any room' (stOf (bufs c1 k1 p1) s)) (pairTo q a room'' (st .next))) o
+          ∙ ap (λ (q : ℕ). bind (valueAt ws r Any room' (stOf (bufs c1 k1 p1) s)) (pairTo (branchOf (w .0) sense) a q (st .next))) e'
           ∙ both-steps room start left one f got right e
           ∙ w .1 .is)
           p
@@ -146,30 +146,30 @@ module _ {ws c k : List ℕ} {i : ℕ} {st : St} (ready : Ready (bufs ws c k) i 
         at and v = side (v .is) (binary-code (kindAt ws i) and (v .kind)) refl
         at or v = side (v .is) (binary-code (kindAt ws i) or (v .kind)) refl
 
-    module _ {a : ℕ} (left : ChildIs ws i (child2 ws i) a) {c1 k1 l : List ℕ} {x : Jumps} (one : Lists (bufs ws c1 k1) l x (branchAt ws a by room start)) where
-      first-is : Lists (bufs ws c1 k1) l x (branchAt ws (child2 ws i) by room start)
+    module _ {a : ℕ} (left : ChildIs ws i (child2 ws i) a) {c1 k1 p1 l : List ℕ} {x : Jumps} (one : Lists (bufs c1 k1 p1) l x (branchAt ws a by room start)) where
+      first-is : Lists (bufs c1 k1 p1) l x (branchAt ws (child2 ws i) by room start)
       first-is = lists-by (ap (λ (q : ℕ). branchAt ws q by room start) (left .is)) one
 
       abbrev second : List ℕ × State → Res (List ℕ × State)
       second q = bind (branchAt ws (child1 ws i) sense (room - length (q .0)) (q .1)) (junctionTo (same by sense) (q .0))
 
-      pub junction-stop : {n : ℕ} → x ≡ J.No n → Lists (bufs ws c1 k1) l x (branchAt ws i sense room start)
+      pub junction-stop : {n : ℕ} → x ≡ J.No n → Lists (bufs c1 k1 p1) l x (branchAt ws i sense room start)
       unfolding junctionB
       junction-stop e = lists-by junction-is (stop-jumps second e first-is)
 
       pub junction-branch : {n : ℕ} {s : St} → x ≡ J.Are n s → {b room' : ℕ} → ChildIs ws i (child1 ws i) b → room' ≡ room - length (take n l) →
-          {c2 k2 m : List ℕ} {y : Jumps} → Lists (bufs ws c2 k2) m y (branchAt ws b sense room' (stOf (bufs ws c1 k1) s)) →
+          {c2 k2 p2 m : List ℕ} {y : Jumps} → Lists (bufs c2 k2 p2) m y (branchAt ws b sense room' (stOf (bufs c1 k1 p1) s)) →
           (js : List ℕ) → take n js ≡ take n l → drop n js ≡ m → {sm : Bool} → sm ≡ same by sense →
-          {c3 js' : List ℕ} {r : Jumps} → Joined c2 c3 js js' sm n y r → Lists (bufs ws c3 k2) js' r (branchAt ws i sense room start)
+          {c3 js' : List ℕ} {r : Jumps} → Joined c2 c3 js js' sm n y r → Lists (bufs c3 k2 p2) js' r (branchAt ws i sense room start)
       unfolding junctionB
-      junction-branch {n} {s} got {b} {room'} right e {c2} {k2} {m} {y} two js front back {sm} sames g =
-          let S : State = stOf (bufs ws c1 k1) s in
+      junction-branch {n} {s} got {b} {room'} right e {c2} {k2} {p2} {m} {y} two js front back {sm} sames g =
+          let S : State = stOf (bufs c1 k1 p1) s in
           let f : List ℕ × State → Res (List ℕ × State) = junctionTo (same by sense) (take n l) in
-          let p = g ws k2 (subst (λ (q : List ℕ). FitJumps (bufs ws c2 k2) q y) (sym back) (two .fit)) in
+          let p = g k2 p2 (subst (λ (q : List ℕ). FitJumps (bufs c2 k2 p2) q y) (sym back) (two .fit)) in
           lists-by
-          (ap (λ (q : List ℕ). bind (readJumps (bufs ws c2 k2) q y) (junctionTo sm (take n js))) back
-          ∙ ap (λ (q : List ℕ). bind (readJumps (bufs ws c2 k2) m y) (junctionTo sm q)) front
-          ∙ ap (λ (q : Bool). bind (readJumps (bufs ws c2 k2) m y) (junctionTo q (take n l))) sames
+          (ap (λ (q : List ℕ). bind (readJumps (bufs c2 k2 p2) q y) (junctionTo sm (take n js))) back
+          ∙ ap (λ (q : List ℕ). bind (readJumps (bufs c2 k2 p2) m y) (junctionTo sm q)) front
+          ∙ ap (λ (q : Bool). bind (readJumps (bufs c2 k2 p2) m y) (junctionTo q (take n l))) sames
           ∙ ap (λ (q : Res (List ℕ × State)). bind q f) (two .is)
           ∙ ap (λ (q : ℕ). bind (branchAt ws q sense room' S) f) (right .is)
           ∙ ap (λ (q : ℕ). bind (branchAt ws (child1 ws i) sense q S) f) e

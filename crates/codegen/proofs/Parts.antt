@@ -51,7 +51,7 @@ module _ {b : Bufs} {js : List ℕ} {x : Jumps} {m : Res (List ℕ × State)} wh
   lists-by e h = record { is = h .is ∙ e; fit = h .fit }
 
 -- the words of what was said are in the buffer
-pub counted : {t c k : List ℕ} {m : Res (ℕ × State)} (x : Ans) → Says (bufs t c k) x m → Counted c x
+pub counted : {c k p : List ℕ} {m : Res (ℕ × State)} (x : Ans) → Says (bufs c k p) x m → Counted c x
 counted (Got r st) h = h .fit .words
 counted (No n) h = tt
 
@@ -90,7 +90,7 @@ module _ (n : ℕ) (l m : List ℕ) (h : n ≤ length l) where
       simp (length-append, length-drop, length-take-le n l h) (omega arith)
 
   -- the jumps of the rest stand behind the front's
-  pub behind : {t c k : List ℕ} {q : Res (List ℕ × State)} (y : Jumps) → Lists (bufs t c k) m y q → Behind c (restored n l m) n y
+  pub behind : {c k p : List ℕ} {q : Res (List ℕ × State)} (y : Jumps) → Lists (bufs c k p) m y q → Behind c (restored n l m) n y
   behind (J.Are j st) r =
       let a : length (restored n l m) ≡ length (take n l) + (length m + length (drop (length l - n) (drop n l))) =
       length-append (take n l) (m ++ drop (length l - n) (drop n l)) ∙ ap (λ (q : ℕ). length (take n l) + q) (length-append m (drop (length l - n) (drop n l))) in

@@ -40,9 +40,9 @@ use Rattle.codegen.proofs.Parts.{go-jumps, stop-says, kept-jumps, left-
 abbrev ofValue : Dst → ℕ → State → Tree → Res (ℕ × State)
 ofValue dst room s t = gen t .value dst room s
 
-module _ {ws c k : List ℕ} {i : ℕ} {st : St} (ready : Ready (bufs ws c k) i st) (dst : Dst) (room : ℕ) where
+module _ {ws c k p : List ℕ} {i : ℕ} {st : St} (ready : Ready ws (bufs c k p) i st) (dst : Dst) (room : ℕ) where
   abbrev start : State
-  start = stOf (bufs ws c k) st
+  start = stOf (bufs c k p) st
 
   -- a leaf
   pub leaf-value : {b : Bufs} {r : Ans} → kindAt ws i ≤ 5 →
@@ -53,11 +53,11 @@ module _ {ws c k : List ℕ} {i : ℕ} {st : St} (ready : Ready (bufs ws c k) i 
       says-by (sym (ap (ofValue dst room start) (v .1 .is))) (g (v .0) (v .1 .kind))
 
   -- an operator that takes in all but one operand
-  pub fold-value : {c1 k1 c2 : List ℕ} {x r : Ans} {tail : Tail} {j : ℕ} → Operand ws i tail j → opFold (tree ws i) ≡ Into tail →
-      Says (bufs ws c1 k1) x (valueAt ws j Any room start) → After c1 c2 x r (tailTo tail dst (st .next)) → Says (bufs ws c2 k1) r (valueAt ws i dst room start)
+  pub fold-value : {c1 k1 p1 c2 : List ℕ} {x r : Ans} {tail : Tail} {j : ℕ} → Operand ws i tail j → opFold (tree ws i) ≡ Into tail →
+      Says (bufs c1 k1 p1) x (valueAt ws j Any room start) → After c1 c2 x r (tailTo tail dst (st .next)) → Says (bufs c2 k1 p1) r (valueAt ws i dst room start)
   unfolding oneV
-  fold-value {k1 = k1} {tail = tail} o e h g =
-      let p = chain (tailTo tail dst (st .next)) h (g ws k1) in
+  fold-value {k1 = k1} {p1 = p1} {tail = tail} o e h g =
+      let p = chain (tailTo tail dst (st .next)) h (g k1 p1) in
       says-by (ap (λ (q : Tree). bind (gen q .value Any room start) (tailTo tail dst (st .next))) (o .is) ∙ fold-is dst room start (tree ws i) e) p
 
   -- an operator of two registers
@@ -82,25 +82,25 @@ module _ {ws c k : List ℕ} {i : ℕ} {st : St} (ready : Ready (bufs ws c k) i 
         by and v = absurd (let e = binary-code (kindAt ws i) and (v .kind) in let g = general .1 in omega numbers)
         by or v = absurd (let e = binary-code (kindAt ws i) or (v .kind) in let g = general .1 in omega numbers)
 
-    module _ {l : ℕ} (left : ChildIs ws i (child2 ws i) l) {c1 k1 : List ℕ} {x : Ans} (one : Says (bufs ws c1 k1) x (valueAt ws l Any room start)) where
-      pub two-stop : {n : ℕ} → x ≡ No n → Says (bufs ws c1 k1) x (valueAt ws i dst room start)
+    module _ {l : ℕ} (left : ChildIs ws i (child2 ws i) l) {c1 k1 p1 : List ℕ} {x : Ans} (one : Says (bufs c1 k1 p1) x (valueAt ws l Any room start)) where
+      pub two-stop : {n : ℕ} → x ≡ No n → Says (bufs c1 k1 p1) x (valueAt ws i dst room start)
       unfolding twoV
       two-stop e =
           let w = two-of in
           says-by (w .1 .is) (stop (λ q. bind (valueAt ws (child1 ws i) Any room (q .1)) (threeTo (threeOf (w .0)) (q .0) dst (st .next))) e (left-is room start left one))
 
       pub two-value : {a : ℕ} {s : St} → x ≡ Got a s → {r room' : ℕ} → ChildIs ws i (child1 ws i) r → room' ≡ room →
-          {c2 k2 : List ℕ} {y : Ans} → Says (bufs ws c2 k2) y (valueAt ws r Any room' (stOf (bufs ws c1 k1) s)) →
+          {c2 k2 p2 : List ℕ} {y : Ans} → Says (bufs c2 k2 p2) y (valueAt ws r Any room' (stOf (bufs c1 k1 p1) s)) →
           {kd : ℕ} → kd ≡ kindAt ws i → {op : Three} → ((o : Arith) → kindOf kd ≡ binaryKind (arith o) → op ≡ threeOf o) →
-          {c3 : List ℕ} {z : Ans} → After c2 c3 y z (threeTo op a dst (st .next)) → Says (bufs ws c3 k2) z (valueAt ws i dst room start)
+          {c3 : List ℕ} {z : Ans} → After c2 c3 y z (threeTo op a dst (st .next)) → Says (bufs c3 k2 p2) z (valueAt ws i dst room start)
       unfolding twoV
-      two-value {a} {s} got {r} {room'} right e {k2 = k2} two kd {op} three g =
+      two-value {a} {s} got {r} {room'} right e {k2 = k2} {p2 = p2} two kd {op} three g =
           let w = two-of in
           let f : ℕ → ℕ × State → Res (ℕ × State) = λ b. threeTo (threeOf (w .0)) b dst (st .next) in
-          let p = chain (threeTo op a dst (st .next)) two (g ws k2) in
+          let p = chain (threeTo op a dst (st .next)) two (g k2 p2) in
           let o : op ≡ threeOf (w .0) = three (w .0) (ap kindOf kd ∙ w .1 .kind) in
           says-by
-          (ap (λ (q : Three). bind (valueAt ws r Any room' (stOf (bufs ws c1 k1) s)) (threeTo q a dst (st .next))) o ∙ both-steps room start left one f got right e ∙ w .1 .is)
+          (ap (λ (q : Three). bind (valueAt ws r Any room' (stOf (bufs c1 k1 p1) s)) (threeTo q a dst (st .next))) o ∙ both-steps room start left one f got right e ∙ w .1 .is)
           p
 
   -- the destination, then the branch of a condition, then the two loads
@@ -119,20 +119,20 @@ module _ {ws c k : List ℕ} {i : ℕ} {st : St} (ready : Ready (bufs ws c k) i 
         by or v = at-tree (v .is) refl
 
     module _ {x : Ans} (to : (c : List ℕ) → Steps c c st x (destD dst)) where
-      pub cond-stop : {n : ℕ} → x ≡ No n → Says (bufs ws c k) x (valueAt ws i dst room start)
+      pub cond-stop : {n : ℕ} → x ≡ No n → Says (bufs c k p) x (valueAt ws i dst room start)
       unfolding condV
-      cond-stop e = says-by cond-is (stop (λ d. bind (branchAt ws i true room (d .1)) (λ js. boolD (js .0) (d .0) (js .1))) e (to c ws k (ready .fit)))
+      cond-stop e = says-by cond-is (stop (λ d. bind (branchAt ws i true room (d .1)) (λ js. boolD (js .0) (d .0) (js .1))) e (to c k p (ready .fit)))
 
-      module _ {d : ℕ} {s : St} (got : x ≡ Got d s) {c1 k1 js : List ℕ} {y : Jumps} (test : Lists (bufs ws c1 k1) js y (branchAt ws i true room (stOf (bufs ws c k) s))) where
-        cond-from : bind (branchAt ws i true room (stOf (bufs ws c k) s)) (λ js. boolD (js .0) d (js .1)) ≡ valueAt ws i dst room start
+      module _ {d : ℕ} {s : St} (got : x ≡ Got d s) {c1 k1 p1 js : List ℕ} {y : Jumps} (test : Lists (bufs c1 k1 p1) js y (branchAt ws i true room (stOf (bufs c k p) s))) where
+        cond-from : bind (branchAt ws i true room (stOf (bufs c k p) s)) (λ js. boolD (js .0) d (js .1)) ≡ valueAt ws i dst room start
         unfolding condV
-        cond-from = go (λ d. bind (branchAt ws i true room (d .1)) (λ js. boolD (js .0) (d .0) (js .1))) got (to c ws k (ready .fit)) ∙ cond-is
+        cond-from = go (λ d. bind (branchAt ws i true room (d .1)) (λ js. boolD (js .0) (d .0) (js .1))) got (to c k p (ready .fit)) ∙ cond-is
 
-        pub cond-refused : {n : ℕ} → y ≡ J.No n → Says (bufs ws c1 k1) (No n) (valueAt ws i dst room start)
+        pub cond-refused : {n : ℕ} → y ≡ J.No n → Says (bufs c1 k1 p1) (No n) (valueAt ws i dst room start)
         cond-refused e = says-by cond-from (stop-says (λ js. boolD (js .0) d (js .1)) e test)
 
-        pub cond-value : {n : ℕ} {t : St} → y ≡ J.Are n t → {c2 : List ℕ} {r : Ans} → Steps c1 c2 t r (boolD (take n js) d) → Says (bufs ws c2 k1) r (valueAt ws i dst room start)
-        cond-value e g = says-by (go-jumps (λ js. boolD (js .0) d (js .1)) e test ∙ cond-from) (g ws k1 (kept-jumps e test))
+        pub cond-value : {n : ℕ} {t : St} → y ≡ J.Are n t → {c2 : List ℕ} {r : Ans} → Steps c1 c2 t r (boolD (take n js) d) → Says (bufs c2 k1 p1) r (valueAt ws i dst room start)
+        cond-value e g = says-by (go-jumps (λ js. boolD (js .0) d (js .1)) e test ∙ cond-from) (g k1 p1 (kept-jumps e test))
 
   -- the destination, then the test's branch, then the arms
   module _ (tern : IsTernary ws i) where
@@ -144,39 +144,39 @@ module _ {ws c k : List ℕ} {i : ℕ} {st : St} (ready : Ready (bufs ws c k) i 
     arms d = armsD (valueAt ws (child2 ws i)) (valueAt ws (child1 ws i)) d room
 
     module _ {x : Ans} (to : (c : List ℕ) → Steps c c st x (destD dst)) where
-      pub ternary-stop : {n : ℕ} → x ≡ No n → Says (bufs ws c k) x (valueAt ws i dst room start)
+      pub ternary-stop : {n : ℕ} → x ≡ No n → Says (bufs c k p) x (valueAt ws i dst room start)
       unfolding ternaryV
-      ternary-stop e = says-by ternary-is (stop (λ d. bind (branchAt ws (child3 ws i) false room (d .1)) (arms (d .0))) e (to c ws k (ready .fit)))
+      ternary-stop e = says-by ternary-is (stop (λ d. bind (branchAt ws (child3 ws i) false room (d .1)) (arms (d .0))) e (to c k p (ready .fit)))
 
       module _ {d : ℕ} {s : St} (got : x ≡ Got d s) {j : ℕ} (child : ChildIs ws i (child3 ws i) j)
-          {c1 k1 js : List ℕ} {y : Jumps} (test : Lists (bufs ws c1 k1) js y (branchAt ws j false room (stOf (bufs ws c k) s))) where
-        ternary-from : bind (branchAt ws j false room (stOf (bufs ws c k) s)) (arms d) ≡ valueAt ws i dst room start
+          {c1 k1 p1 js : List ℕ} {y : Jumps} (test : Lists (bufs c1 k1 p1) js y (branchAt ws j false room (stOf (bufs c k p) s))) where
+        ternary-from : bind (branchAt ws j false room (stOf (bufs c k p) s)) (arms d) ≡ valueAt ws i dst room start
         unfolding ternaryV
         ternary-from =
-            ap (λ (q : ℕ). bind (branchAt ws q false room (stOf (bufs ws c k) s)) (arms d)) (child .is)
-            ∙ go (λ d. bind (branchAt ws (child3 ws i) false room (d .1)) (arms (d .0))) got (to c ws k (ready .fit))
+            ap (λ (q : ℕ). bind (branchAt ws q false room (stOf (bufs c k p) s)) (arms d)) (child .is)
+            ∙ go (λ d. bind (branchAt ws (child3 ws i) false room (d .1)) (arms (d .0))) got (to c k p (ready .fit))
             ∙ ternary-is
 
-        pub ternary-refused : {n : ℕ} → y ≡ J.No n → Says (bufs ws c1 k1) (No n) (valueAt ws i dst room start)
+        pub ternary-refused : {n : ℕ} → y ≡ J.No n → Says (bufs c1 k1 p1) (No n) (valueAt ws i dst room start)
         ternary-refused e = says-by ternary-from (stop-says (arms d) e test)
 
         pub ternary-value : {n : ℕ} {t : St} → y ≡ J.Are n t → {b : Bufs} {r : Ans} {room' : ℕ} → room' ≡ room →
-            Says b r (armsD (valueAt ws (child2 ws i)) (valueAt ws (child1 ws i)) d room' (take n js, stOf (bufs ws c1 k1) t)) → Says b r (valueAt ws i dst room start)
+            Says b r (armsD (valueAt ws (child2 ws i)) (valueAt ws (child1 ws i)) d room' (take n js, stOf (bufs c1 k1 p1) t)) → Says b r (valueAt ws i dst room start)
         ternary-value {n} {t} e r h =
             says-by
-            (ap (λ (q : ℕ). armsD (valueAt ws (child2 ws i)) (valueAt ws (child1 ws i)) d q (take n js, stOf (bufs ws c1 k1) t)) r ∙ go-jumps (arms d) e test ∙ ternary-from)
+            (ap (λ (q : ℕ). armsD (valueAt ws (child2 ws i)) (valueAt ws (child1 ws i)) d q (take n js, stOf (bufs c1 k1 p1) t)) r ∙ go-jumps (arms d) e test ∙ ternary-from)
             h
 
 -- a move
-pub into-value : {ws : List ℕ} (i d room : ℕ) (start : State) {c1 k1 c2 : List ℕ} {x r : Ans} → Says (bufs ws c1 k1) x (valueAt ws i (To d) room start) →
-    After c1 c2 x r (moveTo d (start .next)) → Says (bufs ws c2 k1) r (intoD (valueAt ws i) d room start)
+pub into-value : (ws : List ℕ) (i d room : ℕ) (start : State) {c1 k1 p1 c2 : List ℕ} {x r : Ans} → Says (bufs c1 k1 p1) x (valueAt ws i (To d) room start) →
+    After c1 c2 x r (moveTo d (start .next)) → Says (bufs c2 k1 p1) r (intoD (valueAt ws i) d room start)
 unfolding intoD
-into-value {ws} i d room start {k1 = k1} h g = chain (moveTo d (start .next)) h (g ws k1)
+into-value ws i d room start {k1 = k1} {p1 = p1} h g = chain (moveTo d (start .next)) h (g k1 p1)
 
 -- the arms of a ternary: the then side, the turn, the else side, the end
 module _ {ws : List ℕ} {i : ℕ} (d room : ℕ) (js : List ℕ) (start : State)
     {a room1 : ℕ} (yes : ChildIs ws i (child2 ws i) a) (rest : room1 ≡ room - length js)
-    {c1 k1 : List ℕ} {x : Ans} (one : Says (bufs ws c1 k1) x (intoD (valueAt ws a) d room1 start)) where
+    {c1 k1 p1 : List ℕ} {x : Ans} (one : Says (bufs c1 k1 p1) x (intoD (valueAt ws a) d room1 start)) where
   abbrev all : Res (ℕ × State)
   all = armsD (valueAt ws (child2 ws i)) (valueAt ws (child1 ws i)) d room (js, start)
 
@@ -186,37 +186,37 @@ module _ {ws : List ℕ} {i : ℕ} (d room : ℕ) (js : List ℕ) (start : State
   abbrev turned : ℕ × State → Res (ℕ × State)
   turned x = bind (turnD js d (x .1)) (last (here (x .1)))
 
-  then-is : Says (bufs ws c1 k1) x (intoD (valueAt ws (child2 ws i)) d (room - length js) start)
+  then-is : Says (bufs c1 k1 p1) x (intoD (valueAt ws (child2 ws i)) d (room - length js) start)
   then-is =
       says-by
       (ap (λ (q : ℕ). intoD (valueAt ws q) d room1 start) (yes .is) ∙ ap (λ (q : ℕ). intoD (valueAt ws (child2 ws i)) d q start) rest)
       one
 
-  pub arms-stop : {n : ℕ} → x ≡ No n → Says (bufs ws c1 k1) x all
+  pub arms-stop : {n : ℕ} → x ≡ No n → Says (bufs c1 k1 p1) x all
   unfolding armsD
   arms-stop e = stop turned e then-is
 
   module _ {e : ℕ} {s : St} (got : x ≡ Got e s) {js' c2 : List ℕ} {y : Ans} (front : js' ≡ js) (turn : Steps c1 c2 s y (turnD js' d)) where
-    turn-is : Says (bufs ws c2 k1) y (turnD js d (stOf (bufs ws c1 k1) s))
-    turn-is = says-by (ap (λ (q : List ℕ). turnD q d (stOf (bufs ws c1 k1) s)) front) (turn ws k1 (kept got one))
+    turn-is : Says (bufs c2 k1 p1) y (turnD js d (stOf (bufs c1 k1 p1) s))
+    turn-is = says-by (ap (λ (q : List ℕ). turnD q d (stOf (bufs c1 k1 p1) s)) front) (turn k1 p1 (kept got one))
 
-    from-turn : bind (turnD js d (stOf (bufs ws c1 k1) s)) (last (here (stOf (bufs ws c1 k1) s))) ≡ all
+    from-turn : bind (turnD js d (stOf (bufs c1 k1 p1) s)) (last (here (stOf (bufs c1 k1 p1) s))) ≡ all
     unfolding armsD
     from-turn = go turned got then-is
 
-    pub arms-turned : {n : ℕ} → y ≡ No n → Says (bufs ws c2 k1) y all
-    arms-turned n = says-by from-turn (stop (last (here (stOf (bufs ws c1 k1) s))) n turn-is)
+    pub arms-turned : {n : ℕ} → y ≡ No n → Says (bufs c2 k1 p1) y all
+    arms-turned n = says-by from-turn (stop (last (here (stOf (bufs c1 k1 p1) s))) n turn-is)
 
     pub arms-value : {e' : ℕ} {t : St} → y ≡ Got e' t → {b room2 : ℕ} → ChildIs ws i (child1 ws i) b → room2 ≡ room →
-        {c3 k3 : List ℕ} {z : Ans} → Says (bufs ws c3 k3) z (intoD (valueAt ws b) d room2 (stOf (bufs ws c2 k1) t)) →
-        {c4 : List ℕ} {r : Ans} → After c3 c4 z r (λ q. patchD (s .count) d (q .1)) → Says (bufs ws c4 k3) r all
-    arms-value {t = t} g {b} {room2} other same {k3 = k3} two end =
+        {c3 k3 p3 : List ℕ} {z : Ans} → Says (bufs c3 k3 p3) z (intoD (valueAt ws b) d room2 (stOf (bufs c2 k1 p1) t)) →
+        {c4 : List ℕ} {r : Ans} → After c3 c4 z r (λ q. patchD (s .count) d (q .1)) → Says (bufs c4 k3 p3) r all
+    arms-value {t = t} g {b} {room2} other same {k3 = k3} {p3 = p3} two end =
         let n : length (take (s .count) c1) ≡ s .count = length-take-le (s .count) c1 (kept got one .words) in
-        let p = chain (λ q. patchD (s .count) d (q .1)) two (end ws k3) in
+        let p = chain (λ q. patchD (s .count) d (q .1)) two (end k3 p3) in
         says-by
-        (ap (λ (q : ℕ). bind (intoD (valueAt ws q) d room2 (stOf (bufs ws c2 k1) t)) (λ z. patchD (s .count) d (z .1))) (other .is)
-        ∙ ap (λ (q : ℕ). bind (intoD (valueAt ws (child1 ws i)) d q (stOf (bufs ws c2 k1) t)) (λ z. patchD (s .count) d (z .1))) same
-        ∙ ap (λ (q : ℕ). last q (0, stOf (bufs ws c2 k1) t)) (sym n)
-        ∙ go (last (here (stOf (bufs ws c1 k1) s))) g turn-is
+        (ap (λ (q : ℕ). bind (intoD (valueAt ws q) d room2 (stOf (bufs c2 k1 p1) t)) (λ z. patchD (s .count) d (z .1))) (other .is)
+        ∙ ap (λ (q : ℕ). bind (intoD (valueAt ws (child1 ws i)) d q (stOf (bufs c2 k1 p1) t)) (λ z. patchD (s .count) d (z .1))) same
+        ∙ ap (λ (q : ℕ). last q (0, stOf (bufs c2 k1 p1) t)) (sym n)
+        ∙ go (last (here (stOf (bufs c1 k1 p1) s))) g turn-is
         ∙ from-turn)
         p

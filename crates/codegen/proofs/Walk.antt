@@ -78,7 +78,7 @@ module _ {ws : List ℕ} {i t : ℕ} (r : ℕ) (here : level ws i r ≡ t) where
     jumps-lower : level ws j (jumpsRank ws j) < t
     jumps-lower = let h = by-kind-le ws j 4 6 (omega arith) (omega arith) in lower _ (omega arith)
 
-  module _ (c k : List ℕ) {n j : ℕ} {st : St} (child : ChildIs ws i n j) (ready : Ready (bufs ws c k) i st) where
+  module _ (c k p : List ℕ) {n j : ℕ} {st : St} (child : ChildIs ws i n j) (ready : Ready ws (bufs c k p) i st) where
     pub child-operand : level ws j (operandRank ws j) < t
     child-operand = operand-lower (child .of (ready .base) (ready .node))
 
@@ -91,8 +91,8 @@ module _ {ws : List ℕ} {i t : ℕ} (r : ℕ) (here : level ws i r ≡ t) where
     pub child-into : level ws j 8 < t
     child-into = lower (child .of (ready .base) (ready .node)) 8 (omega arith)
 
-  pub operand-operand : (c k : List ℕ) {j : ℕ} {st : St} {tail : Tail} → Operand ws i tail j → Ready (bufs ws c k) i st → level ws j (operandRank ws j) < t
-  operand-operand c k o ready = operand-lower (o .of (ready .base) (ready .node))
+  pub operand-operand : (c k p : List ℕ) {j : ℕ} {st : St} {tail : Tail} → Operand ws i tail j → Ready ws (bufs c k p) i st → level ws j (operandRank ws j) < t
+  operand-operand c k p o ready = operand-lower (o .of (ready .base) (ready .node))
 
 -- at the node itself the ranks fall from rule to rule
 cond-of : (t : List ℕ) (i x y : ℕ) → 17 < kindAt t i → kindAt t i ≤ 25 → byKind t i x y ≡ x
@@ -155,13 +155,13 @@ not-cond t i x y nc nj =
     ]
 
 -- the node that a test tests: a child, or the node itself, where the ranks fall
-pub tested-operand : {ws : List ℕ} {i j t : ℕ} (c k : List ℕ) {st : St} → level ws i (testRank ws i) ≡ t → Tested ws i j → isJunction (kindAt ws i) ≡ false → Ready (bufs ws c k) i st →
+pub tested-operand : {ws : List ℕ} {i j t : ℕ} (c k p : List ℕ) {st : St} → level ws i (testRank ws i) ≡ t → Tested ws i j → isJunction (kindAt ws i) ≡ false → Ready ws (bufs c k p) i st →
     level ws j (operandRank ws j) < t
-tested-operand {ws} {i} {j} {t} c k e tested nj ready =
+tested-operand {ws} {i} {j} {t} c k p e tested nj ready =
     ⊎-elim
     (λ of. operand-lower (testRank ws i) e (of (ready .base) (ready .node)))
     (λ own.
-    let p : testRank ws i ≡ 5 = not-cond ws i 3 5 (own .1) nj in
+    let m : testRank ws i ≡ 5 = not-cond ws i 3 5 (own .1) nj in
     let q : valueRank ws i ≡ 3 = not-cond ws i 7 3 (own .1) nj in
     let z : level ws i (operandRank ws i) < t = omega arith in
     subst (λ (n : ℕ). level ws n (operandRank ws n) < t) (sym (own .0)) z)
@@ -172,7 +172,7 @@ pub ruleset ranks =
 
 -- ---- a callee finds what it asks
 
-module _ {ws c k : List ℕ} {i : ℕ} {st : St} (ready : Ready (bufs ws c k) i st) where
+module _ {ws c k p : List ℕ} {i : ℕ} {st : St} (ready : Ready ws (bufs c k p) i st) where
   pub inside : i < nodeCount ws
   inside = ready .node .inside
 
@@ -186,28 +186,28 @@ module _ {ws c k : List ℕ} {i : ℕ} {st : St} (ready : Ready (bufs ws c k) i 
   leaf-ready h = record { base = ready .base; node = ready .node; low = ready .low; leaf = h }
 
   module _ {n j : ℕ} (child : ChildIs ws i n j) where
-    pub ready-child : Ready (bufs ws c k) j st
+    pub ready-child : Ready ws (bufs c k p) j st
     ready-child = record { base = ready .base; node = child .of (ready .base) (ready .node) .node; low = ready .low; fit = ready .fit }
 
-    pub ready-after : {c' k' : List ℕ} {x : Ans} {a : ℕ} {s : St} {m : Res (ℕ × State)} → x ≡ Got a s → Says (bufs ws c' k') x m → Ready (bufs ws c' k') j s
+    pub ready-after : {c' k' p' : List ℕ} {x : Ans} {a : ℕ} {s : St} {m : Res (ℕ × State)} → x ≡ Got a s → Says (bufs c' k' p') x m → Ready ws (bufs c' k' p') j s
     ready-after e h = record { base = ready .base; node = child .of (ready .base) (ready .node) .node; low = ready .low; fit = kept e h }
 
-  pub ready-operand : {j : ℕ} {tail : Tail} → Operand ws i tail j → Ready (bufs ws c k) j st
+  pub ready-operand : {j : ℕ} {tail : Tail} → Operand ws i tail j → Ready ws (bufs c k p) j st
   ready-operand o = record { base = ready .base; node = o .of (ready .base) (ready .node) .node; low = ready .low; fit = ready .fit }
 
-  pub ready-dest : {x : Ans} {d : ℕ} {s : St} (dst : Dst) → ((c : List ℕ) → Steps c c st x (destD dst)) → x ≡ Got d s → Ready (bufs ws c k) i s
-  ready-dest dst h e = record { base = ready .base; node = ready .node; low = ready .low; fit = kept e (h c ws k (ready .fit)) }
+  pub ready-dest : {x : Ans} {d : ℕ} {s : St} (dst : Dst) → ((c : List ℕ) → Steps c c st x (destD dst)) → x ≡ Got d s → Ready ws (bufs c k p) i s
+  ready-dest dst h e = record { base = ready .base; node = ready .node; low = ready .low; fit = kept e (h c k p (ready .fit)) }
 
-  pub ready-jumps : {c' k' js : List ℕ} {x : Jumps} {n : ℕ} {s : St} {m : Res (List ℕ × State)} → x ≡ J.Are n s → Lists (bufs ws c' k') js x m → Ready (bufs ws c' k') i s
+  pub ready-jumps : {c' k' p' js : List ℕ} {x : Jumps} {n : ℕ} {s : St} {m : Res (List ℕ × State)} → x ≡ J.Are n s → Lists (bufs c' k' p') js x m → Ready ws (bufs c' k' p') i s
   ready-jumps e h = record { base = ready .base; node = ready .node; low = ready .low; fit = kept-jumps e h }
 
-  pub ready-tested : {j : ℕ} → Tested ws i j → Ready (bufs ws c k) j st
+  pub ready-tested : {j : ℕ} → Tested ws i j → Ready ws (bufs c k p) j st
   ready-tested =
       ⊎-elim
       (λ of. record { base = ready .base; node = of (ready .base) (ready .node) .node; low = ready .low; fit = ready .fit })
-      (λ own. subst (λ (n : ℕ). Ready (bufs ws c k) n st) (sym (own .0)) ready)
+      (λ own. subst (λ (n : ℕ). Ready ws (bufs c k p) n st) (sym (own .0)) ready)
 
-  pub fit-of : Fit (bufs ws c k) st
+  pub fit-of : Fit (bufs c k p) st
   fit-of = ready .fit
 
   -- an operator that takes in nothing has two operands

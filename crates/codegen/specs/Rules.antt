@@ -35,10 +35,10 @@ armsAt t i d js room s = armsD (valueAt t (child2 t i)) (valueAt t (child1 t i))
 
 -- ---- what a rule asks
 
--- i is a node of an accepted table, whose registers are below 65,536, and the state's words and constants are in the buffers
-pub record Ready (b : Bufs) (i : ℕ) (st : St) : Type 0 where
+-- i is a node of the accepted table t, whose registers are below 65,536, and the state's words and constants are in the buffers
+pub record Ready (t : List ℕ) (b : Bufs) (i : ℕ) (st : St) : Type 0 where
   pub base : ℕ
-  pub node : Node (b .nodes) base i
+  pub node : Node t base i
   pub low : base ≤ maxRegisters
   pub fit : Fit b st
 
@@ -49,16 +49,16 @@ abbrev pub Lent : Type 0
 Lent = Both (RefT (List ℕ)) (RefT (List ℕ))
 
 -- a value rule: from the state st, which is read off the buffers at entry, the answer r is what f gives with the room of the jump list
-abbrev pub GivesValue : (nodes code slots jumps : Lent) (st : St) (r : Ans) (f : ℕ → State → Res (ℕ × State)) → Type 0
-GivesValue nodes code slots jumps st r f =
-    Says (bufs (now (nodes .entry)) (now (code .exit)) (now (slots .exit))) r
-    (f (length (now (jumps .entry))) (stOf (bufs (now (nodes .entry)) (now (code .entry)) (now (slots .entry))) st))
+abbrev pub GivesValue : (nodes code kinds payloads jumps : Lent) (st : St) (r : Ans) (f : ℕ → State → Res (ℕ × State)) → Type 0
+GivesValue nodes code kinds payloads jumps st r f =
+    Says (bufs (now (code .exit)) (now (kinds .exit)) (now (payloads .exit))) r
+    (f (length (now (jumps .entry))) (stOf (bufs (now (code .entry)) (now (kinds .entry)) (now (payloads .entry))) st))
 
 -- a branch rule: the same, with the jumps at the front of the list
-abbrev pub GivesJumps : (nodes code slots jumps : Lent) (st : St) (r : Jumps) (f : ℕ → State → Res (List ℕ × State)) → Type 0
-GivesJumps nodes code slots jumps st r f =
-    Lists (bufs (now (nodes .entry)) (now (code .exit)) (now (slots .exit))) (now (jumps .exit)) r
-    (f (length (now (jumps .entry))) (stOf (bufs (now (nodes .entry)) (now (code .entry)) (now (slots .entry))) st))
+abbrev pub GivesJumps : (nodes code kinds payloads jumps : Lent) (st : St) (r : Jumps) (f : ℕ → State → Res (List ℕ × State)) → Type 0
+GivesJumps nodes code kinds payloads jumps st r f =
+    Lists (bufs (now (code .exit)) (now (kinds .exit)) (now (payloads .exit))) (now (jumps .exit)) r
+    (f (length (now (jumps .entry))) (stOf (bufs (now (code .entry)) (now (kinds .entry)) (now (payloads .entry))) st))
 
 -- ---- what each rule is for, by the node's kind
 

@@ -37,41 +37,43 @@ ghost use Rattle.codegen.specs.Rules.{IsOperator, IsGeneral, IsCondition
 pub fn gen_code_inner(
     nodes: &[u64],
     code: &mut [u64],
-    slots: &mut [u64],
+    kinds: &mut [u8],
+    payloads: &mut [u64],
     jumps: &mut [u64],
     i: usize,
     dst: Dst,
     st: St,
 ) -> Ans
-    requires { ⌜ Ready (bufs (now nodes) (now code) (now slots)) i st ⌝ }
-    ensures { λ r. ⌜ GivesValue nodes code slots jumps st r (valueAt (now (nodes .entry)) i dst) ⌝ }
+    requires { ⌜ Ready (now nodes) (bufs (now code) (now kinds) (now payloads)) i st ⌝ }
+    ensures { λ r. ⌜ GivesValue nodes code kinds payloads jumps st r (valueAt (now (nodes .entry)) i dst) ⌝ }
 {
     let k = table::kind_at(nodes, i);
     if k <= table::REF {
-        return gen_value(nodes, code, slots, i, dst, st);
+        return gen_value(nodes, code, kinds, payloads, i, dst, st);
     }
     if k <= table::MOD {
-        return gen_operator(nodes, code, slots, jumps, i, dst, st);
+        return gen_operator(nodes, code, kinds, payloads, jumps, i, dst, st);
     }
     if k <= table::OR {
-        return gen_cond_value(nodes, code, slots, jumps, i, dst, st);
+        return gen_cond_value(nodes, code, kinds, payloads, jumps, i, dst, st);
     }
-    gen_ternary(nodes, code, slots, jumps, i, dst, st)
+    gen_ternary(nodes, code, kinds, payloads, jumps, i, dst, st)
 }
 
 // An operand: the value of node i, in any register. Never the destination, which may be a local that an operand still to come reads.
 fn gen_operand(
     nodes: &[u64],
     code: &mut [u64],
-    slots: &mut [u64],
+    kinds: &mut [u8],
+    payloads: &mut [u64],
     jumps: &mut [u64],
     i: usize,
     st: St,
 ) -> Ans
-    requires { ⌜ Ready (bufs (now nodes) (now code) (now slots)) i st ⌝ }
-    ensures { λ r. ⌜ GivesValue nodes code slots jumps st r (valueAt (now (nodes .entry)) i Dst.Any) ⌝ }
+    requires { ⌜ Ready (now nodes) (bufs (now code) (now kinds) (now payloads)) i st ⌝ }
+    ensures { λ r. ⌜ GivesValue nodes code kinds payloads jumps st r (valueAt (now (nodes .entry)) i Dst.Any) ⌝ }
 {
-    gen_code_inner(nodes, code, slots, jumps, i, Dst::Any, st)
+    gen_code_inner(nodes, code, kinds, payloads, jumps, i, Dst::Any, st)
 }
 
 // An operator that is no condition, Minus and Not included (`gen_bin_op` in the Rust has the binary ones): its one operand and the instruction that takes in
@@ -79,21 +81,22 @@ fn gen_operand(
 fn gen_operator(
     nodes: &[u64],
     code: &mut [u64],
-    slots: &mut [u64],
+    kinds: &mut [u8],
+    payloads: &mut [u64],
     jumps: &mut [u64],
     i: usize,
     dst: Dst,
     st: St,
 ) -> Ans
-    requires { ⌜ (Ready (bufs (now nodes) (now code) (now slots)) i st) × (IsOperator (now nodes) i) ⌝ }
-    ensures { λ r. ⌜ GivesValue nodes code slots jumps st r (valueAt (now (nodes .entry)) i dst) ⌝ }
+    requires { ⌜ (Ready (now nodes) (bufs (now code) (now kinds) (now payloads)) i st) × (IsOperator (now nodes) i) ⌝ }
+    ensures { λ r. ⌜ GivesValue nodes code kinds payloads jumps st r (valueAt (now (nodes .entry)) i dst) ⌝ }
 {
     let f = fold_of(nodes, i);
     let Fold::Into(tail) = f else {
-        return gen_two(nodes, code, slots, jumps, i, dst, st);
+        return gen_two(nodes, code, kinds, payloads, jumps, i, dst, st);
     };
     let j = operand_of(nodes, i, tail);
-    let x = gen_operand(nodes, code, slots, jumps, j, st);
+    let x = gen_operand(nodes, code, kinds, payloads, jumps, j, st);
     put_tail(code, tail, dst, st.next, x)
 }
 
@@ -101,20 +104,37 @@ fn gen_operator(
 fn gen_two(
     nodes: &[u64],
     code: &mut [u64],
-    slots: &mut [u64],
+    kinds: &mut [u8],
+    payloads: &mut [u64],
     jumps: &mut [u64],
     i: usize,
     dst: Dst,
     st: St,
 ) -> Ans
-    requires { ⌜ (Ready (bufs (now nodes) (now code) (now slots)) i st) × (IsGeneral (now nodes) i) ⌝ }
-    ensures { λ r. ⌜ GivesValue nodes code slots jumps st r (valueAt (now (nodes .entry)) i dst) ⌝ }
+    requires { ⌜ (Ready (now nodes) (bufs (now code) (now kinds) (now payloads)) i st) × (IsGeneral (now nodes) i) ⌝ }
+    ensures { λ r. ⌜ GivesValue nodes code kinds payloads jumps st r (valueAt (now (nodes .entry)) i dst) ⌝ }
 {
-    let x = gen_operand(nodes, code, slots, jumps, table::child_2(nodes, i), st);
+    let x = gen_operand(
+        nodes,
+        code,
+        kinds,
+        payloads,
+        jumps,
+        table::child_2(nodes, i),
+        st,
+    );
     let Ans::Got(a, s) = x else {
         return x;
     };
-    let y = gen_operand(nodes, code, slots, jumps, table::child_1(nodes, i), s);
+    let y = gen_operand(
+        nodes,
+        code,
+        kinds,
+        payloads,
+        jumps,
+        table::child_1(nodes, i),
+        s,
+    );
     put_three(code, three_of(table::kind_at(nodes, i)), a, dst, st.next, y)
 }
 
@@ -123,20 +143,21 @@ fn gen_two(
 fn gen_cond_value(
     nodes: &[u64],
     code: &mut [u64],
-    slots: &mut [u64],
+    kinds: &mut [u8],
+    payloads: &mut [u64],
     jumps: &mut [u64],
     i: usize,
     dst: Dst,
     st: St,
 ) -> Ans
-    requires { ⌜ (Ready (bufs (now nodes) (now code) (now slots)) i st) × (IsCondition (now nodes) i) ⌝ }
-    ensures { λ r. ⌜ GivesValue nodes code slots jumps st r (valueAt (now (nodes .entry)) i dst) ⌝ }
+    requires { ⌜ (Ready (now nodes) (bufs (now code) (now kinds) (now payloads)) i st) × (IsCondition (now nodes) i) ⌝ }
+    ensures { λ r. ⌜ GivesValue nodes code kinds payloads jumps st r (valueAt (now (nodes .entry)) i dst) ⌝ }
 {
     let x = dest(dst, st);
     let Ans::Got(d, s) = x else {
         return x;
     };
-    let y = gen_jumps(nodes, code, slots, jumps, i, true, s);
+    let y = gen_jumps(nodes, code, kinds, payloads, jumps, i, true, s);
     match y {
         Jumps::Are(n, t) => gen_bool(code, &jumps[..n], d, t),
         Jumps::No(f) => Ans::No(f),
@@ -147,14 +168,15 @@ fn gen_cond_value(
 fn gen_ternary(
     nodes: &[u64],
     code: &mut [u64],
-    slots: &mut [u64],
+    kinds: &mut [u8],
+    payloads: &mut [u64],
     jumps: &mut [u64],
     i: usize,
     dst: Dst,
     st: St,
 ) -> Ans
-    requires { ⌜ (Ready (bufs (now nodes) (now code) (now slots)) i st) × (IsTernary (now nodes) i) ⌝ }
-    ensures { λ r. ⌜ GivesValue nodes code slots jumps st r (valueAt (now (nodes .entry)) i dst) ⌝ }
+    requires { ⌜ (Ready (now nodes) (bufs (now code) (now kinds) (now payloads)) i st) × (IsTernary (now nodes) i) ⌝ }
+    ensures { λ r. ⌜ GivesValue nodes code kinds payloads jumps st r (valueAt (now (nodes .entry)) i dst) ⌝ }
 {
     let x = dest(dst, st);
     let Ans::Got(d, s) = x else {
@@ -163,14 +185,15 @@ fn gen_ternary(
     let y = gen_jumps(
         nodes,
         code,
-        slots,
+        kinds,
+        payloads,
         jumps,
         table::child_3(nodes, i),
         false,
         s,
     );
     match y {
-        Jumps::Are(n, t) => gen_arms(nodes, code, slots, jumps, i, d, n, t),
+        Jumps::Are(n, t) => gen_arms(nodes, code, kinds, payloads, jumps, i, d, n, t),
         Jumps::No(f) => Ans::No(f),
     }
 }
@@ -180,20 +203,22 @@ fn gen_ternary(
 fn gen_arms(
     nodes: &[u64],
     code: &mut [u64],
-    slots: &mut [u64],
+    kinds: &mut [u8],
+    payloads: &mut [u64],
     jumps: &mut [u64],
     i: usize,
     d: u16,
     n: usize,
     st: St,
 ) -> Ans
-    requires { ⌜ (Ready (bufs (now nodes) (now code) (now slots)) i st) × (IsTernary (now nodes) i) × (n ≤ length (now jumps)) ⌝ }
-    ensures { λ r. ⌜ GivesValue nodes code slots jumps st r (armsAt (now (nodes .entry)) i d (take n (now (jumps .entry)))) ⌝ }
+    requires { ⌜ (Ready (now nodes) (bufs (now code) (now kinds) (now payloads)) i st) × (IsTernary (now nodes) i) × (n ≤ length (now jumps)) ⌝ }
+    ensures { λ r. ⌜ GivesValue nodes code kinds payloads jumps st r (armsAt (now (nodes .entry)) i d (take n (now (jumps .entry)))) ⌝ }
 {
     let x = gen_into(
         nodes,
         code,
-        slots,
+        kinds,
+        payloads,
         &mut jumps[n..],
         table::child_2(nodes, i),
         d,
@@ -207,7 +232,16 @@ fn gen_arms(
     let Ans::Got(_, t) = y else {
         return y;
     };
-    let z = gen_into(nodes, code, slots, jumps, table::child_1(nodes, i), d, t);
+    let z = gen_into(
+        nodes,
+        code,
+        kinds,
+        payloads,
+        jumps,
+        table::child_1(nodes, i),
+        d,
+        t,
+    );
     settle(code, p, d, z)
 }
 
@@ -215,16 +249,17 @@ fn gen_arms(
 pub fn gen_into(
     nodes: &[u64],
     code: &mut [u64],
-    slots: &mut [u64],
+    kinds: &mut [u8],
+    payloads: &mut [u64],
     jumps: &mut [u64],
     i: usize,
     d: u16,
     st: St,
 ) -> Ans
-    requires { ⌜ Ready (bufs (now nodes) (now code) (now slots)) i st ⌝ }
-    ensures { λ r. ⌜ GivesValue nodes code slots jumps st r (intoD (valueAt (now (nodes .entry)) i) d) ⌝ }
+    requires { ⌜ Ready (now nodes) (bufs (now code) (now kinds) (now payloads)) i st ⌝ }
+    ensures { λ r. ⌜ GivesValue nodes code kinds payloads jumps st r (intoD (valueAt (now (nodes .entry)) i) d) ⌝ }
 {
-    let x = gen_code_inner(nodes, code, slots, jumps, i, Dst::To(d), st);
+    let x = gen_code_inner(nodes, code, kinds, payloads, jumps, i, Dst::To(d), st);
     put_mov(code, d, st.next, x)
 }
 
@@ -234,58 +269,72 @@ pub fn gen_into(
 fn gen_branch(
     nodes: &[u64],
     code: &mut [u64],
-    slots: &mut [u64],
+    kinds: &mut [u8],
+    payloads: &mut [u64],
     jumps: &mut [u64],
     i: usize,
     sense: bool,
     st: St,
 ) -> Jumps
-    requires { ⌜ Ready (bufs (now nodes) (now code) (now slots)) i st ⌝ }
-    ensures { λ r. ⌜ GivesJumps nodes code slots jumps st r (branchAt (now (nodes .entry)) i sense) ⌝ }
+    requires { ⌜ Ready (now nodes) (bufs (now code) (now kinds) (now payloads)) i st ⌝ }
+    ensures { λ r. ⌜ GivesJumps nodes code kinds payloads jumps st r (branchAt (now (nodes .entry)) i sense) ⌝ }
 {
     let k = table::kind_at(nodes, i);
     if k == table::NOT {
-        return gen_not(nodes, code, slots, jumps, i, sense, st);
+        return gen_not(nodes, code, kinds, payloads, jumps, i, sense, st);
     }
     if is_junction(k) {
-        return gen_junction(nodes, code, slots, jumps, i, k == table::OR, sense, st);
+        return gen_junction(
+            nodes,
+            code,
+            kinds,
+            payloads,
+            jumps,
+            i,
+            k == table::OR,
+            sense,
+            st,
+        );
     }
-    gen_test(nodes, code, slots, jumps, i, sense, st)
+    gen_test(nodes, code, kinds, payloads, jumps, i, sense, st)
 }
 
 // The branch of a condition, of a ternary's test, or of a side of And or Or.
 fn gen_jumps(
     nodes: &[u64],
     code: &mut [u64],
-    slots: &mut [u64],
+    kinds: &mut [u8],
+    payloads: &mut [u64],
     jumps: &mut [u64],
     i: usize,
     sense: bool,
     st: St,
 ) -> Jumps
-    requires { ⌜ Ready (bufs (now nodes) (now code) (now slots)) i st ⌝ }
-    ensures { λ r. ⌜ GivesJumps nodes code slots jumps st r (branchAt (now (nodes .entry)) i sense) ⌝ }
+    requires { ⌜ Ready (now nodes) (bufs (now code) (now kinds) (now payloads)) i st ⌝ }
+    ensures { λ r. ⌜ GivesJumps nodes code kinds payloads jumps st r (branchAt (now (nodes .entry)) i sense) ⌝ }
 {
-    gen_branch(nodes, code, slots, jumps, i, sense, st)
+    gen_branch(nodes, code, kinds, payloads, jumps, i, sense, st)
 }
 
 // Negation folds into the sense of the branch.
 fn gen_not(
     nodes: &[u64],
     code: &mut [u64],
-    slots: &mut [u64],
+    kinds: &mut [u8],
+    payloads: &mut [u64],
     jumps: &mut [u64],
     i: usize,
     sense: bool,
     st: St,
 ) -> Jumps
-    requires { ⌜ (Ready (bufs (now nodes) (now code) (now slots)) i st) × (IsNot (now nodes) i) ⌝ }
-    ensures { λ r. ⌜ GivesJumps nodes code slots jumps st r (branchAt (now (nodes .entry)) i sense) ⌝ }
+    requires { ⌜ (Ready (now nodes) (bufs (now code) (now kinds) (now payloads)) i st) × (IsNot (now nodes) i) ⌝ }
+    ensures { λ r. ⌜ GivesJumps nodes code kinds payloads jumps st r (branchAt (now (nodes .entry)) i sense) ⌝ }
 {
     gen_branch(
         nodes,
         code,
-        slots,
+        kinds,
+        payloads,
         jumps,
         table::child_1(nodes, i),
         !sense,
@@ -298,20 +347,21 @@ fn gen_not(
 fn gen_test(
     nodes: &[u64],
     code: &mut [u64],
-    slots: &mut [u64],
+    kinds: &mut [u8],
+    payloads: &mut [u64],
     jumps: &mut [u64],
     i: usize,
     sense: bool,
     st: St,
 ) -> Jumps
-    requires { ⌜ (Ready (bufs (now nodes) (now code) (now slots)) i st) × (IsTest (now nodes) i) ⌝ }
-    ensures { λ r. ⌜ GivesJumps nodes code slots jumps st r (branchAt (now (nodes .entry)) i sense) ⌝ }
+    requires { ⌜ (Ready (now nodes) (bufs (now code) (now kinds) (now payloads)) i st) × (IsTest (now nodes) i) ⌝ }
+    ensures { λ r. ⌜ GivesJumps nodes code kinds payloads jumps st r (branchAt (now (nodes .entry)) i sense) ⌝ }
 {
     let t = test_of(nodes, i, sense);
     let Test::One(j, how) = t else {
-        return gen_pair(nodes, code, slots, jumps, i, sense, st);
+        return gen_pair(nodes, code, kinds, payloads, jumps, i, sense, st);
     };
-    let x = gen_operand(nodes, code, slots, jumps, j, st);
+    let x = gen_operand(nodes, code, kinds, payloads, jumps, j, st);
     jump_one(code, jumps, how, st.next, x)
 }
 
@@ -319,19 +369,36 @@ fn gen_test(
 fn gen_pair(
     nodes: &[u64],
     code: &mut [u64],
-    slots: &mut [u64],
+    kinds: &mut [u8],
+    payloads: &mut [u64],
     jumps: &mut [u64],
     i: usize,
     sense: bool,
     st: St,
 ) -> Jumps
-    requires { ⌜ (Ready (bufs (now nodes) (now code) (now slots)) i st) × (IsPair (now nodes) i sense) ⌝ }
-    ensures { λ r. ⌜ GivesJumps nodes code slots jumps st r (branchAt (now (nodes .entry)) i sense) ⌝ }
+    requires { ⌜ (Ready (now nodes) (bufs (now code) (now kinds) (now payloads)) i st) × (IsPair (now nodes) i sense) ⌝ }
+    ensures { λ r. ⌜ GivesJumps nodes code kinds payloads jumps st r (branchAt (now (nodes .entry)) i sense) ⌝ }
 {
-    let x = gen_operand(nodes, code, slots, jumps, table::child_2(nodes, i), st);
+    let x = gen_operand(
+        nodes,
+        code,
+        kinds,
+        payloads,
+        jumps,
+        table::child_2(nodes, i),
+        st,
+    );
     match x {
         Ans::Got(a, s) => {
-            let y = gen_operand(nodes, code, slots, jumps, table::child_1(nodes, i), s);
+            let y = gen_operand(
+                nodes,
+                code,
+                kinds,
+                payloads,
+                jumps,
+                table::child_1(nodes, i),
+                s,
+            );
             jump_pair(
                 code,
                 jumps,
@@ -350,24 +417,35 @@ fn gen_pair(
 fn gen_junction(
     nodes: &[u64],
     code: &mut [u64],
-    slots: &mut [u64],
+    kinds: &mut [u8],
+    payloads: &mut [u64],
     jumps: &mut [u64],
     i: usize,
     by: bool,
     sense: bool,
     st: St,
 ) -> Jumps
-    requires { ⌜ (Ready (bufs (now nodes) (now code) (now slots)) i st) × (IsJunction (now nodes) i by) ⌝ }
-    ensures { λ r. ⌜ GivesJumps nodes code slots jumps st r (branchAt (now (nodes .entry)) i sense) ⌝ }
+    requires { ⌜ (Ready (now nodes) (bufs (now code) (now kinds) (now payloads)) i st) × (IsJunction (now nodes) i by) ⌝ }
+    ensures { λ r. ⌜ GivesJumps nodes code kinds payloads jumps st r (branchAt (now (nodes .entry)) i sense) ⌝ }
 {
-    let x = gen_jumps(nodes, code, slots, jumps, table::child_2(nodes, i), by, st);
+    let x = gen_jumps(
+        nodes,
+        code,
+        kinds,
+        payloads,
+        jumps,
+        table::child_2(nodes, i),
+        by,
+        st,
+    );
     let Jumps::Are(n, s) = x else {
         return x;
     };
     let y = gen_jumps(
         nodes,
         code,
-        slots,
+        kinds,
+        payloads,
         &mut jumps[n..],
         table::child_1(nodes, i),
         sense,

@@ -1,32 +1,27 @@
 -- What the proofs of `generate`, `compile` and `compile_with` cite: what a checked table gives, from the root's answer.
 use mathlib.Core.Path.{_≡_, refl, sym, ap, subst, _∙_}
-use mathlib.Core.List.{List, [], _++_, map}
-use Prim.Native.Nat.{ℕ, zero, suc, _+_, _*_, _-_, _<_, _≤_, min}
-use native.Mathlib.Nat.{min-le-left, min-le-right}
+use mathlib.Core.List.{List}
+use Prim.Native.Nat.{ℕ, zero, suc, _+_, _*_, _-_, _<_, _≤_}
 use native.Mathlib.Omega.{arith}
-use lib.ListN.{length, take, drop, replicate, length-append, length-drop, List·getD-append}
-use lib.Seq.{length-take-le, take-append-le}
+use lib.ListN.{length, replicate}
 use Rattle.faults.specs.Limits.{maxNodes, maxRegisters}
 use Rattle.table.specs.declared.Dest.{Dest}
 use Rattle.table.specs.declared.Dest.the-variants as D
 use Rattle.table.specs.Table.{nodeCount, tempBase, checkOf}
 use Rattle.table.specs.Tree.{Tree, tree, size}
 use Rattle.table.proofs.Whole.{accepted as accepted-table, dest-below}
-use Rattle.value.specs.Value.{kindOf, payloadOf}
 use Rattle.compile.specs.declared.buffers.Compiled.{Compiled}
-use Rattle.compile.specs.declared.buffers.Compiled.the-variants.{Done}
 use Rattle.emit.specs.declared.state.St.{St}
 use Rattle.emit.specs.declared.state.Dst.{Dst}
 use Rattle.emit.specs.declared.state.Dst.the-variants.{Any, To}
 use Rattle.emit.specs.declared.state.Ans.{Ans}
 use Rattle.emit.specs.declared.state.Ans.the-variants.{Got, No}
 use Rattle.emit.specs.State.{Res, done, fail, State}
-use Rattle.emit.specs.Read.{bufs, stOf, constAt, read, Fit, Says}
+use Rattle.emit.specs.Read.{Bufs, stOf, read, Says}
 use Rattle.codegen.specs.Gen.{gen}
 use Rattle.compile.specs.Compile.{start, dstOf, rootD, generated, accepted, compileOf}
-use Rattle.compile.specs.Buffers.{padded, Compiles}
-use Rattle.compile.specs.Parts.{Root, IsRegister, zeroed, Emitted}
-use Rattle.emit.proofs.Laws.{kept}
+use Rattle.compile.specs.Buffers.{Compiles}
+use Rattle.compile.specs.Parts.{Root, IsRegister, zeroed}
 use Rattle.codegen.proofs.Room.{same-room, into-same}
 
 -- ---- a checked table
@@ -44,70 +39,25 @@ module _ (ws : List ℕ) (params locals : ℕ) where
 
 pub ruleset checked = (checked-root, checked-layout, checked-dest)
 
--- ---- the slots are the front of the payloads
-
-pub smaller-right : {n : ℕ} (a b : ℕ) → n ≡ min a b → n ≤ b
-smaller-right a b e = rw e (min-le-right a b)
-
-pub smaller-left : {n : ℕ} (a b : ℕ) → n ≡ min a b → n ≤ a
-smaller-left a b e = rw e (min-le-left a b)
-
-module _ (n : ℕ) (p m : List ℕ) (l : length m ≡ length (take n p)) (h : n ≤ length p) where
-  pub front-length : length m ≡ n
-  front-length = l ∙ length-take-le n p h
-
-  pub back-length : length (m ++ drop n p) ≡ length p
-  back-length =
-      let a = front-length in
-      let b : length (drop n p) ≡ length p - n = length-drop n p in
-      length-append m (drop n p) ∙ (let z : length m + length (drop n p) ≡ length p = omega arith in z)
-
-module _ {t c m : List ℕ} (rest : List ℕ) {s : St} (f : Fit (bufs t c m) s) where
-  fit-more : Fit (bufs t c (m ++ rest)) s
-  fit-more =
-      let a = f .consts in
-      let b = length-append m rest in
-      record { words = f .words; consts = omega arith; named = λ k h. rw (List·getD-append m rest 0 k (omega arith)) (f .named k h) }
-
-  same-slots : take (s .slots) (m ++ rest) ≡ take (s .slots) m
-  same-slots = take-append-le (s .slots) m rest (f .consts)
-
-pub emitted : (kinds p : List ℕ) (n : ℕ) {t c m : List ℕ} {s : St} → Fit (bufs t c m) s → length m ≡ length (take n p) → n ≡ min (length kinds) (length p) → Emitted t c kinds (m ++ drop n p) s
-emitted kinds p n {m = m} f l e =
-    let a = f .consts in
-    let b = front-length n p m l (smaller-right (length kinds) (length p) e) in
-    let d = smaller-left (length kinds) (length p) e in
-    record { fit = fit-more (drop n p) f; room = omega arith }
-
 -- ---- what is left behind is what the definition says
 
-pub lengths : {q : Compiled} {g : Res (ℕ × State)} {c k p : List ℕ} {lc lc' lk lp lp' : ℕ} → lc ≡ lc' → lp ≡ lp' → Compiles q g c k p lc lk lp → Compiles q g c k p lc' lk lp'
-lengths {q} {g} {c} {k} {p} {lc} {lc'} {lk} {lp} {lp'} e i h =
-    subst (λ (x : ℕ). Compiles q g c k p lc' lk x) i (subst (λ (x : ℕ). Compiles q g c k p x lk lp) e h)
+pub lengths : {q : Compiled} {g : Res (ℕ × State)} {c k p : List ℕ} {lc lc' lk lk' lp lp' : ℕ} → lc ≡ lc' → lk ≡ lk' → lp ≡ lp' → Compiles q g c k p lc lk lp → Compiles q g c k p lc' lk' lp'
+lengths a b d h = rw (← a, ← b, ← d) h
 
-module _ {t c m : List ℕ} {x : Ans} {g : Res (ℕ × State)} (says : Says (bufs t c m) x g) {q : Compiled} {c2 k2 p2 : List ℕ} {lc lk lp : ℕ} where
-  pub generated-done : (rest : List ℕ) {r : ℕ} {s : St} → x ≡ Got r s → Compiles q (done (r, stOf (bufs t c (m ++ rest)) s)) c2 k2 p2 lc lk lp → Compiles q g c2 k2 p2 lc lk lp
-  generated-done rest {r} {s} e h =
-      let w = same-slots rest (kept e says) in
-      let d : Compiles q (done (r, stOf (bufs t c m) s)) c2 k2 p2 lc lk lp = record {
-        answer = subst (λ (z : List ℕ). q ≡ Done (length (take (s .count) c)) (length (map (constAt t) z)) r (s .frame)) w (h .answer);
-        words = h .words;
-        slotKinds = subst (λ (z : List ℕ). k2 ≡ padded (map kindOf (map (constAt t) z)) lk) w (h .slotKinds);
-        slotPayloads = subst (λ (z : List ℕ). p2 ≡ padded (map payloadOf (map (constAt t) z)) lp) w (h .slotPayloads);
-      } in
-      subst (λ (y : Res (ℕ × State)). Compiles q y c2 k2 p2 lc lk lp) (ap (read (bufs t c m)) (sym e) ∙ says .is) d
+module _ {b : Bufs} {x : Ans} {g : Res (ℕ × State)} (says : Says b x g) {q : Compiled} {c k p : List ℕ} {lc lk lp : ℕ} where
+  pub generated-done : {r : ℕ} {s : St} → x ≡ Got r s → Compiles q (done (r, stOf b s)) c k p lc lk lp → Compiles q g c k p lc lk lp
+  generated-done e h = subst (λ (y : Res (ℕ × State)). Compiles q y c k p lc lk lp) (ap (read b) (sym e) ∙ says .is) h
 
-  pub generated-refused : {n : ℕ} → x ≡ No n → Compiles q (fail n) c2 k2 p2 lc lk lp → Compiles q g c2 k2 p2 lc lk lp
-  generated-refused e h = subst (λ (y : Res (ℕ × State)). Compiles q y c2 k2 p2 lc lk lp) (ap (read (bufs t c m)) (sym e) ∙ says .is) h
+  pub generated-refused : {n : ℕ} → x ≡ No n → Compiles q (fail n) c k p lc lk lp → Compiles q g c k p lc lk lp
+  generated-refused e h = subst (λ (y : Res (ℕ × State)). Compiles q y c k p lc lk lp) (ap (read b) (sym e) ∙ says .is) h
 
 -- the root's answer is the definition's
-pub root-generated : (tr : Tree) (dest : Dest) (base room cap : ℕ) {slotCap n b : ℕ} {dst : Dst} → dst ≡ dstOf dest → b ≡ tempBase base → n ≡ slotCap →
-    rootD (gen tr .value) dst room (start cap n b) ≡ generated tr dest base room cap slotCap
+pub root-generated : (tr : Tree) (dest : Dest) (base room cap slotCap : ℕ) {b : ℕ} {dst : Dst} → dst ≡ dstOf dest → b ≡ tempBase base →
+    rootD (gen tr .value) dst room (start cap slotCap b) ≡ generated tr dest base room cap slotCap
 unfolding generated
-root-generated tr dest base room cap {slotCap} {n} {b} e i l =
-    ap (λ (d : Dst). rootD (gen tr .value) d room (start cap n b)) e
-    ∙ ap (λ (x : ℕ). rootD (gen tr .value) (dstOf dest) room (start cap n x)) i
-    ∙ ap (λ (x : ℕ). rootD (gen tr .value) (dstOf dest) room (start cap x (tempBase base))) l
+root-generated tr dest base room cap slotCap {b} e i =
+    ap (λ (d : Dst). rootD (gen tr .value) d room (start cap slotCap b)) e
+    ∙ ap (λ (x : ℕ). rootD (gen tr .value) (dstOf dest) room (start cap slotCap x)) i
 
 -- ---- a jump list that does not run out
 

@@ -1,3 +1,2 @@
 -- Laws of what is left behind.
 pub mod Ends
-pub mod Fills

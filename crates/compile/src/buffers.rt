@@ -2,13 +2,12 @@
 // alone, so that nothing of a refused expression can be run by mistake.
 use emit::state::St;
 ghost use mathlib.Core.Path.{_≡_};
-ghost use Prim.Native.Nat.{_<_, _≤_};
+ghost use Prim.Native.Nat.{_≤_};
 ghost use lib.ListN.{length};
-ghost use Rattle.table.specs.Table.{nodeCount};
 ghost use Rattle.emit.specs.State.{done, fail};
-ghost use Rattle.emit.specs.Read.{bufs, stOf};
+ghost use Rattle.emit.specs.Read.{bufs, stOf, Fit};
 ghost use Rattle.compile.specs.Buffers.{Compiles};
-ghost use Rattle.compile.specs.Parts.{zeroed, slotKind, Named, Filled, Emitted};
+ghost use Rattle.compile.specs.Parts.{zeroed};
 
 // What compiling answers: how many words and constants, the register that holds the value and the frame's size; or the number of a refusal.
 pub enum Compiled {
@@ -40,50 +39,23 @@ fn zero_kinds(a: &mut [u8], from: usize)
     }
 }
 
-// The kind of the constant of the literal at node j: an Int is kind 2, a Float kind 3.
-fn slot_kind(nodes: &[u64], j: usize) -> u8
-    requires { ⌜ j < nodeCount (now nodes) ⌝ }
-    ensures { λ r. ⌜ r ≡ slotKind (now (nodes .entry)) j ⌝ }
-{
-    if table::kind_at(nodes, j) == table::INT {
-        return 2;
-    }
-    3
-}
-
-// While words are made a slot holds the number of its literal's node (`push_const`): here it gets that literal's kind and payload.
-fn fill_slots(nodes: &[u64], kinds: &mut [u8], payloads: &mut [u64], n: usize)
-    requires { ⌜ Named (now nodes) (now kinds) (now payloads) n ⌝ }
-    ensures { λ _. ⌜ Filled (now (nodes .entry)) (now (payloads .entry)) (now (kinds .exit)) (now (payloads .exit)) n ⌝ }
-{
-    let mut k = 0;
-    while k < n {
-        let j = payloads[k] as usize;
-        kinds[k] = slot_kind(nodes, j);
-        payloads[k] = table::payload_at(nodes, j);
-        k += 1;
-    }
-}
-
-// All words are made: the slots get their constants, and what follows is zeroed.
+// All words are made, and the constants stand in their slots: what follows is zeroed.
 pub(crate) fn finish(
-    nodes: &[u64],
     code: &mut [u64],
     kinds: &mut [u8],
     payloads: &mut [u64],
     r: u16,
     s: St,
 ) -> Compiled
-    requires { ⌜ Emitted (now nodes) (now code) (now kinds) (now payloads) s ⌝ }
+    requires { ⌜ Fit (bufs (now code) (now kinds) (now payloads)) s ⌝ }
     ensures { λ q. ⌜
-        Compiles q (done (r, stOf (bufs (now (nodes .entry)) (now (code .entry)) (now (payloads .entry))) s))
+        Compiles q (done (r, stOf (bufs (now (code .entry)) (now (kinds .entry)) (now (payloads .entry))) s))
         (now (code .exit)) (now (kinds .exit)) (now (payloads .exit))
         (length (now (code .entry))) (length (now (kinds .entry))) (length (now (payloads .entry)))
         ⌝ }
 {
     let w = s.count;
     let k = s.slots;
-    fill_slots(nodes, kinds, payloads, k);
     zero_from(code, w);
     zero_kinds(kinds, k);
     zero_from(payloads, k);

@@ -24,12 +24,6 @@ ghost use Rattle.compile.specs.Buffers.{Compiles};
 ghost use Rattle.compile.specs.Compile.{dstOf, rootD, start, generated, compileOf};
 ghost use Rattle.compile.specs.Parts.{Root, IsRegister};
 
-fn smaller(a: usize, b: usize) -> usize
-    ensures { λ r. ⌜ r ≡ min a b ⌝ }
-{
-    if a < b { a } else { b }
-}
-
 // The destination as the rules take it.
 fn dst_of(dest: Dest) -> Dst
     requires { ⌜ IsRegister dest ⌝ }
@@ -55,16 +49,17 @@ fn temp_base(params: u64, locals: u64) -> u16
 fn root(
     nodes: &[u64],
     code: &mut [u64],
-    slots: &mut [u64],
+    kinds: &mut [u8],
+    payloads: &mut [u64],
     jumps: &mut [u64],
     dst: Dst,
     base: u16,
 ) -> Ans
     requires { ⌜ Root (now nodes) ⌝ }
     ensures { λ r. ⌜
-        Says (bufs (now (nodes .entry)) (now (code .exit)) (now (slots .exit))) r
+        Says (bufs (now (code .exit)) (now (kinds .exit)) (now (payloads .exit))) r
         (rootD (valueAt (now (nodes .entry)) (nodeCount (now (nodes .entry)) - 1)) dst (length (now (jumps .entry)))
-        (start (length (now (code .entry))) (length (now (slots .entry))) base))
+        (start (length (now (code .entry))) (min (length (now (kinds .entry))) (length (now (payloads .entry)))) base))
         ⌝ }
 {
     let i = nodes.len() / 4 - 1;
@@ -75,8 +70,8 @@ fn root(
         frame: base,
     };
     match dst {
-        Dst::Any => gen_code_inner(nodes, code, slots, jumps, i, Dst::Any, st),
-        Dst::To(d) => gen_into(nodes, code, slots, jumps, i, d, st),
+        Dst::Any => gen_code_inner(nodes, code, kinds, payloads, jumps, i, Dst::Any, st),
+        Dst::To(d) => gen_into(nodes, code, kinds, payloads, jumps, i, d, st),
     }
 }
 
@@ -100,17 +95,17 @@ fn generate(
         (length (now (code .entry))) (length (now (kinds .entry))) (length (now (payloads .entry)))
         ⌝ }
 {
-    let n = smaller(kinds.len(), payloads.len());
     let x = root(
         nodes,
         code,
-        &mut payloads[..n],
+        kinds,
+        payloads,
         jumps,
         dst_of(dest),
         temp_base(params, locals),
     );
     match x {
-        Ans::Got(r, s) => finish(nodes, code, kinds, payloads, r, s),
+        Ans::Got(r, s) => finish(code, kinds, payloads, r, s),
         Ans::No(f) => refuse(f, code, kinds, payloads),
     }
 }

@@ -1,101 +1,55 @@
 -- What a leaf has to show: an immediate, a constant and its slot, the register of a Ref.
 use mathlib.Core.Path.{_≡_, refl, sym, ap, subst, _∙_}
-use mathlib.Core.Bool.{Bool, true, false, _&&_, cond}
-use mathlib.Core.List.{List, [], _∷_, map, map-append}
-use Prim.Native.Nat.{ℕ, suc, _+_, _*_, _<_, _≤_, _^_}
-use native.Mathlib.Decide.{decLt}
-use native.Mathlib.Numerals.{add-one}
+use mathlib.Core.Bool.{Bool, true, false}
+use mathlib.Core.List.{List, [], _∷_}
+use mathlib.Core.Logic.{inl, inr}
+use Prim.Native.Nat.{ℕ, suc, _+_, _*_, _<_, _≤_}
 use native.Mathlib.Omega.{arith}
-use lib.Dec.{ltb}
 use lib.IntN.{ℤ, pos, negsuc, _*ℤ_}
-use lib.ListN.{length, take, set, getD, length-set, length-map}
-use lib.Seq.{length-take-le, take-suc-set, getD-set-same, getD-set-other}
+use lib.ListN.{getD}
 use lib.Signed.{mag}
 use mir.Syntax.{w16, w64}
 use mir.Val.{Fits as FitsIn, SFits, toZ, ofZ}
-use borrow.Author.Tests.{lt-ltb, le-ltb, ltb-true, eq-eqb}
-use Rattle.faults.specs.Numbers.{noSlot, noFit}
-use Rattle.value.specs.Value.{Datum}
+use borrow.Author.Tests.{ltb-true}
+use Rattle.value.specs.Value.{Datum, ofPair}
 use Rattle.value.specs.Value as Val
-use Rattle.table.specs.Table.{kindAt, payloadAt, nodeCount}
+use Rattle.table.specs.Table.{kindAt, payloadAt}
 use Rattle.table.specs.Tree.{Leaf, nil, yep, nope, int, float, ref, Kind, leafKind, unaryKind, binaryKind, ternaryKind, noKind, kindOf}
 use Rattle.table.proofs.Arities.{at-kind}
 use Rattle.table.proofs.Nodes.{ok}
-use Rattle.insns.specs.declared.Made.{Made}
-use Rattle.insns.specs.declared.Made.the-variants.{Refused}
-use Rattle.insns.specs.declared.op.Op.{Op}
-use Rattle.insns.specs.declared.op.Slot.the-variants as Slot
-use Rattle.insns.specs.Fields.{wordIf}
-use Rattle.insns.specs.Insns.{madeOf}
 use Rattle.emit.specs.declared.state.St.{St}
 use Rattle.emit.specs.declared.state.Dst.{Dst}
 use Rattle.emit.specs.declared.state.Ans.{Ans}
 use Rattle.emit.specs.declared.state.Ans.the-variants.{Got, No}
-use Rattle.emit.specs.State.{State, destD, slotD, storeD}
+use Rattle.emit.specs.State.{State, destD}
 use Rattle.fold.specs.Literal.{fitsImm40}
 use Rattle.emit.specs.Steps.{putD, loadOp, rawNil, rawTrue, rawFalse, constTo, constD, leafD}
-use Rattle.emit.specs.Read.{Bufs, bufs, constAt, stOf, Fit, Says, Steps, Consts, LeafReady}
+use Rattle.emit.specs.Read.{Bufs, bufs, constOf, stOf, Fit, Says, Steps, Literal, LeafReady}
 use Rattle.emit.proofs.Laws.{go, stop, kept, says-by}
 use Rattle.fold.proofs.literal.Literals.{held}
 
--- ---- a constant's slot
+-- ---- a constant: its register first
 
-pub far-slot : (d k : ℕ) → 4294967295 < k → Refused ≡ madeOf (Op.Slot Slot.LoadConst d k)
-unfolding wordIf
-far-slot d k h = rw (le-ltb k (2 ^ 32) h) (go' (ltb d (2 ^ 16)) _)
-  where
-    go' : (t : Bool) (w : Made) → Refused ≡ cond (t && false) w Refused
-    go' true w = refl
-    go' false w = refl
-
-abbrev taken : St → St
-taken st = record { count = st .count; slots = st .slots + 1; next = st .next; frame = st .frame }
-
-module _ (c ks : List ℕ) (i d : ℕ) (st : St) where
-  slots-are : (t : List ℕ) → st .slots ≤ length ks → length (map (constAt t) (take (st .slots) ks)) ≡ st .slots
-  slots-are t h = length-map (take (st .slots) ks) (constAt t) ∙ length-take-le (st .slots) ks h
-
-  pub const-full : length ks ≤ st .slots → Consts c c ks ks i st (No noSlot) (λ x s. constTo x (d, s))
-  unfolding constTo slotD
-  const-full h t in-table fit = record { is = rw (slots-are t (fit .consts), le-ltb (st .slots) (length ks) h); fit = tt }
-
-  pub const-far : st .slots < length ks → 4294967295 < st .slots → Consts c c ks ks i st (No noFit) (λ x s. constTo x (d, s))
-  unfolding constTo slotD storeD
-  const-far h far t in-table fit =
-      let m : madeOf (Op.Slot Slot.LoadConst d (st .slots)) ≡ Refused = sym (far-slot d (st .slots) far) in
-      record { is = rw (slots-are t (fit .consts), lt-ltb (st .slots) (length ks) h, m); fit = tt }
-
-  fit-after : st .slots < length ks → (t : List ℕ) → i < nodeCount t → Fit (bufs t c ks) st → Fit (bufs t c (set ks (st .slots) i)) (taken st)
-  fit-after h t in-table fit =
-      record {
-        words = fit .words;
-        consts = simp length-set (omega arith);
-        named = λ k l. elim (decLt k (st .slots)) [
-          | yes e ↦ rw (getD-set-other ks (st .slots) k i 0 (λ q. omega arith)) (fit .named k e)
-          | no e ↦ (let q : k ≡ st .slots = omega arith in rw (q, getD-set-same ks (st .slots) i 0 h) in-table)
-        ];
-      }
-
-  -- the slot is taken, and then the word is made
-  pub const-put : {c' : List ℕ} {made : Made} {r : Ans} → st .slots < length ks → made ≡ madeOf (Op.Slot Slot.LoadConst d (st .slots)) → Steps c c' (taken st) r (storeD made d) → Consts c c' ks (set ks (st .slots) i) i st r (λ x s. constTo x (d, s))
-  unfolding constTo slotD
-  const-put h m s t in-table fit =
-      let q = s t (set ks (st .slots) i) (fit-after h t in-table fit) in
-      record {
-        is = q .is ∙ rw (slots-are t (fit .consts), lt-ltb (st .slots) (length ks) h, add-one (st .slots), take-suc-set ks (st .slots) i h, map-append, length-set, m);
-        fit = q .fit;
-      }
-
-module _ {c ks : List ℕ} {i : ℕ} (dst : Dst) {st : St} {x : Ans} (to : (c : List ℕ) → Steps c c st x (destD dst)) where
-  pub const-stop : {n : ℕ} → x ≡ No n → Consts c c ks ks i st x (λ q s. constD q dst s)
+module _ {c ks ps : List ℕ} {st : St} (fit : Fit (bufs c ks ps) st) (v : Datum) (dst : Dst) {x : Ans} (to : (c : List ℕ) → Steps c c st x (destD dst)) where
+  pub const-stop : {n : ℕ} → x ≡ No n → Says (bufs c ks ps) x (constD v dst (stOf (bufs c ks ps) st))
   unfolding constD
-  const-stop e t in-table fit = stop _ e (to c t ks fit)
+  const-stop e = stop _ e (to c ks ps fit)
 
-  pub const-go : {c' ks' : List ℕ} {d : ℕ} {s : St} {r : Ans} → x ≡ Got d s → Consts c c' ks ks' i s r (λ q s. constTo q (d, s)) → Consts c c' ks ks' i st r (λ q s. constD q dst s)
+  pub const-go : {b : Bufs} {d : ℕ} {s : St} {r : Ans} → x ≡ Got d s → Says b r (constTo v (d, stOf (bufs c ks ps) s)) → Says b r (constD v dst (stOf (bufs c ks ps) st))
   unfolding constD
-  const-go e h t in-table fit = let z = to c t ks fit in says-by (go (constTo (constAt t i)) e z) (h t in-table (kept e z))
+  const-go e h = says-by (go (constTo v) e (to c ks ps fit)) h
 
-pub ruleset consts = (const-full, const-far, const-put, const-stop, const-go)
+pub fit-dest : {c ks ps : List ℕ} {st : St} → Fit (bufs c ks ps) st → (dst : Dst) {x : Ans} → ((c : List ℕ) → Steps c c st x (destD dst)) → {d : ℕ} {s : St} → x ≡ Got d s → Fit (bufs c ks ps) s
+fit-dest {c} {ks} {ps} fit dst to e = kept e (to c ks ps fit)
+
+pub ruleset consts = (const-stop, const-go)
+
+-- an Int's pair, and a Float's
+pub literal-int : {p : ℕ} → FitsIn w64 p → Literal 2 p
+literal-int f = record { is = inl refl; word = f }
+
+pub literal-float : {p : ℕ} → FitsIn w64 p → Literal 3 p
+literal-float f = record { is = inr refl; word = f }
 
 -- ---- the leaf at a node
 
@@ -127,23 +81,23 @@ module _ (z : ℤ) (g : mag z < 9223372036854775808) {t : Bool} (w : t ≡ fitsI
   four-fits = record { sfits = four-times (toZ w64 (ofZ w64 z)) (ltb-true (mag (toZ w64 (ofZ w64 z))) 137438953472 (sym w ∙ y)) }
 
 -- its kind is kind, as the code's k says, and its payload pay
-module _ {ws c ks : List ℕ} (dst : Dst) {st : St} (fit : Fit (bufs ws c ks) st) (kind pay : ℕ) {k : ℕ} (e : k ≡ kind) where
-  leaf-by : (m : ℕ) {c' ks' : List ℕ} {r : Ans} → k ≡ m → Says (bufs ws c' ks') r (leafD (leafAt pay m) dst (stOf (bufs ws c ks) st)) → Says (bufs ws c' ks') r (leafD (leafAt pay kind) dst (stOf (bufs ws c ks) st))
+module _ {c ks ps : List ℕ} (dst : Dst) {st : St} (fit : Fit (bufs c ks ps) st) (kind pay : ℕ) {k : ℕ} (e : k ≡ kind) where
+  leaf-by : (m : ℕ) {b : Bufs} {r : Ans} → k ≡ m → Says b r (leafD (leafAt pay m) dst (stOf (bufs c ks ps) st)) → Says b r (leafD (leafAt pay kind) dst (stOf (bufs c ks ps) st))
   leaf-by m h s = let q : kind ≡ m = sym e ∙ h in rw q s
 
   -- an immediate
   module _ {c' : List ℕ} {r : Ans} where
-    pub leaf-nil : k ≡ 0 → Steps c c' st r (putD (loadOp rawNil) dst) → Says (bufs ws c' ks) r (leafD (leafAt pay kind) dst (stOf (bufs ws c ks) st))
+    pub leaf-nil : k ≡ 0 → Steps c c' st r (putD (loadOp rawNil) dst) → Says (bufs c' ks ps) r (leafD (leafAt pay kind) dst (stOf (bufs c ks ps) st))
     unfolding leafD leafAt
-    leaf-nil h s = leaf-by 0 h (s ws ks fit)
+    leaf-nil h s = leaf-by 0 h (s ks ps fit)
 
-    pub leaf-yes : k ≡ 1 → Steps c c' st r (putD (loadOp rawTrue) dst) → Says (bufs ws c' ks) r (leafD (leafAt pay kind) dst (stOf (bufs ws c ks) st))
+    pub leaf-yes : k ≡ 1 → Steps c c' st r (putD (loadOp rawTrue) dst) → Says (bufs c' ks ps) r (leafD (leafAt pay kind) dst (stOf (bufs c ks ps) st))
     unfolding leafD leafAt
-    leaf-yes h s = leaf-by 1 h (s ws ks fit)
+    leaf-yes h s = leaf-by 1 h (s ks ps fit)
 
-    pub leaf-no : k ≡ 2 → Steps c c' st r (putD (loadOp rawFalse) dst) → Says (bufs ws c' ks) r (leafD (leafAt pay kind) dst (stOf (bufs ws c ks) st))
+    pub leaf-no : k ≡ 2 → Steps c c' st r (putD (loadOp rawFalse) dst) → Says (bufs c' ks ps) r (leafD (leafAt pay kind) dst (stOf (bufs c ks ps) st))
     unfolding leafD leafAt
-    leaf-no h s = leaf-by 2 h (s ws ks fit)
+    leaf-no h s = leaf-by 2 h (s ks ps fit)
 
   -- an Int, by its size
   module _ {p : ℕ} (read-is : p ≡ pay) {z : ℤ} (int-is : z ≡ toZ w64 p) (g : mag z < 9223372036854775808) {t : Bool} (w : t ≡ fitsImm40 (toZ w64 (ofZ w64 z))) (h : k ≡ 3) where
@@ -153,25 +107,20 @@ module _ {ws c ks : List ℕ} (dst : Dst) {st : St} (fit : Fit (bufs ws c ks) st
     fits-is : {u : Bool} → t ≡ u → fitsImm40 (toZ w64 pay) ≡ u
     fits-is y = ap fitsImm40 (number ∙ sym (held z g)) ∙ sym w ∙ y
 
-    pub leaf-int : {c' : List ℕ} {r : Ans} → t ≡ true → Steps c c' st r (putD (loadOp (record { raw = toZ w64 (ofZ w64 (pos 4 *ℤ toZ w64 (ofZ w64 z))) })) dst) → Says (bufs ws c' ks) r (leafD (leafAt pay kind) dst (stOf (bufs ws c ks) st))
+    pub leaf-int : {c' : List ℕ} {r : Ans} → t ≡ true → Steps c c' st r (putD (loadOp (record { raw = toZ w64 (ofZ w64 (pos 4 *ℤ toZ w64 (ofZ w64 z))) })) dst) → Says (bufs c' ks ps) r (leafD (leafAt pay kind) dst (stOf (bufs c ks ps) st))
     unfolding leafD leafAt
     leaf-int y s =
         let q : toZ w64 (ofZ w64 (pos 4 *ℤ toZ w64 (ofZ w64 z))) ≡ pos 4 *ℤ toZ w64 pay =
         held (pos 4 *ℤ toZ w64 (ofZ w64 z)) (four-fits z g w y .sfits) ∙ ap (λ (x : ℤ). pos 4 *ℤ x) (held z g ∙ sym number) in
-        leaf-by 3 h (rw (fits-is y) (says-by (ap (λ (x : ℤ). putD (loadOp (record { raw = x })) dst (stOf (bufs ws c ks) st)) q) (s ws ks fit)))
+        leaf-by 3 h (rw (fits-is y) (says-by (ap (λ (x : ℤ). putD (loadOp (record { raw = x })) dst (stOf (bufs c ks ps) st)) q) (s ks ps fit)))
 
-    pub leaf-big : {i : ℕ} {c' ks' : List ℕ} {r : Ans} → LeafReady ws i → kind ≡ kindAt ws i → pay ≡ payloadAt ws i → t ≡ false → Consts c c' ks ks' i st r (λ x s. constD x dst s) → Says (bufs ws c' ks') r (leafD (leafAt pay kind) dst (stOf (bufs ws c ks) st))
-    unfolding leafD leafAt
-    leaf-big {i} ready at-kind at-pay y s =
-        let q : constAt ws i ≡ Val.int (toZ w64 pay) = rw (eq-eqb (kindAt ws i) 3 (sym at-kind ∙ sym e ∙ h), ← at-pay) in
-        leaf-by 3 h (rw (fits-is y) (says-by (ap (λ (x : Datum). constD x dst (stOf (bufs ws c ks) st)) q) (s ws (ready .node .inside) fit)))
+    pub leaf-big : {b : Bufs} {r : Ans} → t ≡ false → Says b r (constD (constOf 2 p) dst (stOf (bufs c ks ps) st)) → Says b r (leafD (leafAt pay kind) dst (stOf (bufs c ks ps) st))
+    unfolding leafD leafAt ofPair
+    leaf-big y s = leaf-by 3 h (rw (fits-is y) (says-by (ap (λ (x : ℕ). constD (Val.int (toZ w64 x)) dst (stOf (bufs c ks ps) st)) read-is) s))
 
-  pub leaf-float : {i : ℕ} {c' ks' : List ℕ} {r : Ans} → LeafReady ws i → kind ≡ kindAt ws i → pay ≡ payloadAt ws i → k ≡ 4 → Consts c c' ks ks' i st r (λ x s. constD x dst s) → Says (bufs ws c' ks') r (leafD (leafAt pay kind) dst (stOf (bufs ws c ks) st))
-  unfolding leafD leafAt
-  leaf-float {i} ready at-kind at-pay h s =
-      let four : kindAt ws i ≡ 4 = sym at-kind ∙ sym e ∙ h in
-      let q : constAt ws i ≡ Val.float pay = rw (four, ← at-pay) in
-      leaf-by 4 h (says-by (ap (λ (x : Datum). constD x dst (stOf (bufs ws c ks) st)) q) (s ws (ready .node .inside) fit))
+  pub leaf-float : {p : ℕ} → p ≡ pay → {b : Bufs} {r : Ans} → k ≡ 4 → Says b r (constD (constOf 3 p) dst (stOf (bufs c ks ps) st)) → Says b r (leafD (leafAt pay kind) dst (stOf (bufs c ks ps) st))
+  unfolding leafD leafAt ofPair
+  leaf-float read-is h s = leaf-by 4 h (says-by (ap (λ (x : ℕ). constD (Val.float x) dst (stOf (bufs c ks ps) st)) read-is) s)
 
 -- the last arm is a Ref's
 module _ {ws : List ℕ} {i : ℕ} (ready : LeafReady ws i) {k : ℕ} (e : k ≡ kindAt ws i) (n0 : k ≡ 0 → ⊥) (n1 : k ≡ 1 → ⊥) (n2 : k ≡ 2 → ⊥) (n3 : k ≡ 3 → ⊥) (n4 : k ≡ 4 → ⊥) where
@@ -181,8 +130,8 @@ module _ {ws : List ℕ} {i : ℕ} (ready : LeafReady ws i) {k : ℕ} (e : k ≡
   pub ref-fits : {p : ℕ} → p ≡ payloadAt ws i → FitsIn w16 p
   ref-fits q = let l = ok ws (ready .base) i (ready .node) .refers (sym e ∙ last-kind) in let m = ready .low in record { fits = omega arith }
 
-  pub leaf-ref : {p : ℕ} {c ks : List ℕ} (dst : Dst) {st : St} → Fit (bufs ws c ks) st → (kind pay : ℕ) → k ≡ kind → p ≡ pay → Says (bufs ws c ks) (Got p st) (leafD (leafAt pay kind) dst (stOf (bufs ws c ks) st))
+  pub leaf-ref : {p : ℕ} {c ks ps : List ℕ} (dst : Dst) {st : St} → Fit (bufs c ks ps) st → (kind pay : ℕ) → k ≡ kind → p ≡ pay → Says (bufs c ks ps) (Got p st) (leafD (leafAt pay kind) dst (stOf (bufs c ks ps) st))
   unfolding leafD leafAt
   leaf-ref dst fit kind pay g q = leaf-by dst fit kind pay g 5 last-kind (record { is = rw q; fit = fit })
 
-pub ruleset leafs = (four-fits, leaf-nil, leaf-yes, leaf-no, leaf-int, leaf-big, leaf-float, leaf-ref, ref-fits)
+pub ruleset leafs = (four-fits, leaf-nil, leaf-yes, leaf-no, leaf-int, leaf-big, leaf-float, leaf-ref, ref-fits, literal-int, literal-float)

@@ -33,16 +33,16 @@ pub record Lists (b : Bufs) (js : List ℕ) (r : Jumps) (m : Res (List ℕ × St
   pub is : readJumps b js r ≡ m
   pub fit : FitJumps b js r
 
--- ---- contracts of leaves, for every table t and all slots k
+-- ---- contracts of leaves, for all slots, with kinds ks and payloads ps
 
 -- from the state st, the words being c before and c' after, and the jump list js after
 abbrev pub Jumping : (c c' js : List ℕ) (st : St) (r : Jumps) (f : State → Res (List ℕ × State)) → Type 0
-Jumping c c' js st r f = (t k : List ℕ) → Fit (bufs t c k) st → Lists (bufs t c' k) js r (f (stOf (bufs t c k) st))
+Jumping c c' js st r f = (ks ps : List ℕ) → Fit (bufs c ks ps) st → Lists (bufs c' ks ps) js r (f (stOf (bufs c ks ps) st))
 
 -- from the answer x
 abbrev pub AfterJumping : (c c' js : List ℕ) (x : Ans) (r : Jumps) (f : ℕ × State → Res (List ℕ × State)) → Type 0
 AfterJumping c c' js x r f =
-    (t k : List ℕ) → FitAns (bufs t c k) x → Lists (bufs t c' k) js r (bind (read (bufs t c k) x) f)
+    (ks ps : List ℕ) → FitAns (bufs c ks ps) x → Lists (bufs c' ks ps) js r (bind (read (bufs c ks ps) x) f)
 
 -- ---- patching
 
@@ -69,5 +69,5 @@ pub record Joinable (c js : List ℕ) (n : ℕ) (y : Jumps) : Type 0 where
 -- from the right side's answer y: words and list are c and js before, c' and js' after; `out` says where the left side's jumps go
 abbrev pub Joined : (c c' js js' : List ℕ) (out : Bool) (n : ℕ) (y r : Jumps) → Type 0
 Joined c c' js js' out n y r =
-    (t k : List ℕ) → FitJumps (bufs t c k) (drop n js) y
-    → Lists (bufs t c' k) js' r (bind (readJumps (bufs t c k) (drop n js) y) (junctionTo out (take n js)))
+    (ks ps : List ℕ) → FitJumps (bufs c ks ps) (drop n js) y
+    → Lists (bufs c' ks ps) js' r (bind (readJumps (bufs c ks ps) (drop n js) y) (junctionTo out (take n js)))

@@ -1,18 +1,16 @@
 -- Plumbing: how the contracts of the code speak of the definition. The code has counts (`St`) and lent buffers, the definition one state with lists
 -- (`State`). `stOf` reads that state off the buffers and `read` an answer; a contract says that what is read is what the definition gives (`Says`).
 use mathlib.Core.Path.{_≡_}
-use mathlib.Core.Bool.{cond}
+use mathlib.Core.Logic.{_⊎_}
 use mathlib.Core.List.{List, map}
-use Prim.Native.Nat.{ℕ, _<_, _≤_, _^_}
-use lib.Dec.{eqb}
-use lib.ListN.{length, take, getD}
+use Prim.Native.Nat.{ℕ, _≤_, _^_, min}
+use lib.ListN.{length, take}
 use mir.Syntax.{w64}
-use mir.Val.{toZ}
+use mir.Val.{Fits}
 use Rattle.faults.specs.Limits.{maxRegisters}
-use Rattle.table.specs.Table.{nodeCount, kindAt, payloadAt}
+use Rattle.table.specs.Table.{kindAt}
 use Rattle.table.specs.Nodes.{Node}
-use Rattle.value.specs.Value.{Datum}
-use Rattle.value.specs.Value as Val
+use Rattle.value.specs.Value.{Datum, kindOf, payloadOf, ofPair, datumOf, datums}
 use Rattle.insns.specs.Bits.{twos}
 use Rattle.insns.specs.declared.op.Imm16.{Imm16}
 use Rattle.emit.specs.declared.state.St.{St}
@@ -22,18 +20,18 @@ use Rattle.emit.specs.State.{Res, done, fail, bind, State}
 
 -- ---- the state
 
--- What is lent: the table, the words, and the slots. Until all words are made a slot holds the number of its literal's node.
+-- what is lent: the words, and the slots as kinds and payloads
 pub record Bufs : Type 0 where
-  pub nodes : List ℕ
   pub code : List ℕ
-  pub slots : List ℕ
+  pub kinds : List ℕ
+  pub payloads : List ℕ
 
-abbrev pub bufs : (t c k : List ℕ) → Bufs
-bufs t c k = record { nodes = t; code = c; slots = k }
+abbrev pub bufs : (c k p : List ℕ) → Bufs
+bufs c k p = record { code = c; kinds = k; payloads = p }
 
--- the constant of the literal at node j
-abbrev pub constAt : List ℕ → ℕ → Datum
-constAt t j = cond (eqb (kindAt t j) 3) (Val.int (toZ w64 (payloadAt t j))) (Val.float (payloadAt t j))
+-- the constants of the first n slots; what lies behind them is not read
+abbrev pub heldIn : (k p : List ℕ) (n : ℕ) → List Datum
+heldIn k p n = datums (take n k) (take n p)
 
 -- the definition's state: as many words and slots as the counts say, and room for as many as are lent
 abbrev pub stOf : Bufs → St → State
@@ -41,17 +39,23 @@ stOf b st =
     record {
       words = take (st .count) (b .code);
       cap = length (b .code);
-      slots = map (constAt (b .nodes)) (take (st .slots) (b .slots));
-      slotCap = length (b .slots);
+      slots = heldIn (b .kinds) (b .payloads) (st .slots);
+      slotCap = min (length (b .kinds)) (length (b .payloads));
       next = st .next;
       frame = st .frame;
     }
 
--- the counts are within the buffers, and each slot that is taken names a node
+-- the first n slots are there, and they are what their constants are written as
+pub record Held (k p : List ℕ) (n : ℕ) : Type 0 where
+  pub in-kinds : n ≤ length k
+  pub in-payloads : n ≤ length p
+  pub as-kinds : take n k ≡ map kindOf (heldIn k p n)
+  pub as-payloads : take n p ≡ map payloadOf (heldIn k p n)
+
+-- the counts are within the buffers
 pub record Fit (b : Bufs) (st : St) : Type 0 where
   pub words : st .count ≤ length (b .code)
-  pub consts : st .slots ≤ length (b .slots)
-  pub named : (k : ℕ) → k < st .slots → getD (b .slots) k 0 < nodeCount (b .nodes)
+  pub consts : Held (b .kinds) (b .payloads) (st .slots)
 
 -- the registers from top up are free again
 abbrev pub freed : (st : St) (top : ℕ) → St
@@ -73,20 +77,26 @@ pub record Says (b : Bufs) (r : Ans) (m : Res (ℕ × State)) : Type 0 where
   pub is : read b r ≡ m
   pub fit : FitAns b r
 
--- ---- contracts of leaves. A leaf reads no node and takes no slot, so it speaks for every table t and all slots k
+-- ---- contracts of leaves. A leaf takes no slot, so it speaks for all slots, with kinds ks and payloads ps
 
 -- from the state st, the words being c before and c' after, the answer r is what f gives
 abbrev pub Steps : (c c' : List ℕ) (st : St) (r : Ans) (f : State → Res (ℕ × State)) → Type 0
-Steps c c' st r f = (t k : List ℕ) → Fit (bufs t c k) st → Says (bufs t c' k) r (f (stOf (bufs t c k) st))
+Steps c c' st r f = (ks ps : List ℕ) → Fit (bufs c ks ps) st → Says (bufs c' ks ps) r (f (stOf (bufs c ks ps) st))
 
 -- the same from an answer x: what f gives of its register and its state, or x where that is a refusal
 abbrev pub After : (c c' : List ℕ) (x r : Ans) (f : ℕ × State → Res (ℕ × State)) → Type 0
-After c c' x r f = (t k : List ℕ) → FitAns (bufs t c k) x → Says (bufs t c' k) r (bind (read (bufs t c k) x) f)
+After c c' x r f = (ks ps : List ℕ) → FitAns (bufs c ks ps) x → Says (bufs c' ks ps) r (bind (read (bufs c ks ps) x) f)
 
--- the same of a leaf that may take a slot, the slots being k before and k' after: f is given the constant of node i
-abbrev pub Consts : (c c' k k' : List ℕ) (i : ℕ) (st : St) (r : Ans) (f : Datum → State → Res (ℕ × State)) → Type 0
-Consts c c' k k' i st r f =
-    (t : List ℕ) → i < nodeCount t → Fit (bufs t c k) st → Says (bufs t c' k') r (f (constAt t i) (stOf (bufs t c k) st))
+-- ---- a literal that takes a slot
+
+-- the constant of a kind and a payload
+abbrev pub constOf : (kind payload : ℕ) → Datum
+constOf kind payload = datumOf (ofPair kind payload)
+
+-- an Int or a Float, and a word
+pub record Literal (kind payload : ℕ) : Type 0 where
+  pub is : (kind ≡ 2) ⊎ (kind ≡ 3)
+  pub word : Fits w64 payload
 
 -- ---- what a leaf of the tree asks
 

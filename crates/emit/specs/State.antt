@@ -1,12 +1,13 @@
 -- The generator's state, and the steps that change it: registers, constant slots, words. A step gives an answer and the state after it, or a refusal.
-use mathlib.Core.Bool.{cond}
+use mathlib.Core.Bool.{Bool, false, cond}
 use mathlib.Core.List.{List, [], _∷_, _++_}
-use Prim.Native.Nat.{ℕ, _+_, max}
-use lib.Dec.{ltb}
+use Prim.Native.Nat.{ℕ, suc, _+_, max}
+use lib.Dec.{ltb, eqb}
+use lib.IntN.{ℤ, pos, negsuc}
 use lib.ListN.{length}
 use Rattle.faults.specs.Numbers.{noRegister, noSlot, noRoom}
 use Rattle.faults.specs.Limits.{maxRegisters}
-use Rattle.value.specs.Value.{Datum}
+use Rattle.value.specs.Value.{Datum, nil, bool, int, float}
 use Rattle.insns.specs.declared.Made.{Made}
 use Rattle.insns.specs.declared.Made.the-variants.{Fits, Refused}
 use Rattle.insns.specs.declared.op.Op.{Op}
@@ -67,12 +68,44 @@ unfoldable pub destD : Dst → State → Res (ℕ × State)
 destD (To d) s = done (d, s)
 destD Any s = allocD s
 
--- a fresh constant slot, whose place is given back (`push_const`); 6 where there is none
+-- ---- constants
+
+-- two constants are one: both Ints or both Floats, with one payload, bit for bit
+abbrev pub sameInt : ℤ → ℤ → Bool
+sameInt (pos a) (pos b) = eqb a b
+sameInt (pos a) (negsuc b) = false
+sameInt (negsuc a) (pos b) = false
+sameInt (negsuc a) (negsuc b) = eqb a b
+
+abbrev pub alike : Datum → Datum → Bool
+alike nil y = false
+alike (bool b) y = false
+alike (int a) nil = false
+alike (int a) (bool b) = false
+alike (int a) (int b) = sameInt a b
+alike (int a) (float q) = false
+alike (float p) nil = false
+alike (float p) (bool b) = false
+alike (float p) (int b) = false
+alike (float p) (float q) = eqb p q
+
+-- the first slot that holds c; the place after the last where none does
+unfoldable pub seek : Datum → List Datum → ℕ
+seek c [] = 0
+seek c (x ∷ xs) = cond (alike x c) 0 (suc (seek c xs))
+
+-- what c adds to the slots: nothing where one holds it already
+abbrev pub fresh : Datum → List Datum → List Datum
+fresh c ks = cond (ltb (seek c ks) (length ks)) [] (c ∷ [])
+
+-- the slot of c, whose place is given back (`push_const`): the first that holds it, or else a new one; 6 where there is none
 unfoldable pub slotD : Datum → State → Res (ℕ × State)
 slotD c s =
-    cond (ltb (length (s .slots)) (s .slotCap))
+    cond (ltb (seek c (s .slots)) (length (s .slots)))
+    (done (seek c (s .slots), s))
+    (cond (ltb (length (s .slots)) (s .slotCap))
     (done (length (s .slots), withSlots (s .slots ++ (c ∷ [])) s))
-    (fail noSlot)
+    (fail noSlot))
 
 -- one word more; 9 where an operand does not fit its field, 7 where there is no room. The register d, whose value the word makes, is the answer
 unfoldable pub storeD : Made → ℕ → State → Res (ℕ × State)

@@ -55,7 +55,7 @@ made =
     }
 
 accepted : Accepted choice 2 0 None 2 made
-unfolding Faults.fault Faults._or-else_ Table.tempBase Table.arity Table.children Table.spanFault Table.nodeFault Table.nodesFault Table.shapeFault Table.layoutFault Table.destFault Table.lastFault Table.checkOf Tree.kindOf Tree.build Tree.treeAt Tree.tree Bits.twos Bits.isRaw Fields.rawBits Fields.wordIf Decode.signed Decode.whole Decode.ifRaw Decode.decodeOf Patch.aimWord Patch.patchOf Patch.patchAll State.allocD State.destD State.slotD State.storeD Jump.patchedD Jump.leapD Literal.bits Literal.runAt Literal.runFrom Literal.bitRun Literal.litOf Fold.shiftBy Fold.shiftedBy Fold.foldBy Steps.putD Steps.constTo Steps.constD Steps.leafD Steps.putTo Steps.moveTo Jump.leapTo Jump.turnD Gen.leafV Gen.oneV Gen.twoV Gen.binaryV Gen.intoD Gen.armsD Gen.ternaryV Gen.oneB Gen.pairB Gen.compareB Gen.gen Compile.rootD Compile.generated Compile.compileOf
+unfolding Faults.fault Faults._or-else_ Table.tempBase Table.arity Table.children Table.spanFault Table.nodeFault Table.nodesFault Table.shapeFault Table.layoutFault Table.destFault Table.lastFault Table.checkOf Tree.kindOf Tree.build Tree.treeAt Tree.tree Bits.twos Bits.isRaw Fields.rawBits Fields.wordIf Decode.signed Decode.whole Decode.ifRaw Decode.decodeOf Patch.aimWord Patch.patchOf Patch.patchAll State.allocD State.destD State.seek State.slotD State.storeD Jump.patchedD Jump.leapD Literal.bits Literal.runAt Literal.runFrom Literal.bitRun Literal.litOf Fold.shiftBy Fold.shiftedBy Fold.foldBy Steps.putD Steps.constTo Steps.constD Steps.leafD Steps.putTo Steps.moveTo Jump.leapTo Jump.turnD Gen.leafV Gen.oneV Gen.twoV Gen.binaryV Gen.intoD Gen.armsD Gen.ternaryV Gen.oneB Gen.pairB Gen.compareB Gen.gen Compile.rootD Compile.generated Compile.compileOf
 accepted = record { places = 8; cap = 8; slotCap = 8; is = refl }
 
 abbrev kinds : List ℕ

@@ -39,17 +39,22 @@ use Rattle.compile.specs.Compile as Compile
 use Rattle.effect.specs.Effect as Effect
 use Rattle.machine.specs.Step as Step
 use Rattle.machine.specs.Run as Run
-use Rattle.samples.specs.Samples.{samples, notsFrom, refused, unstarred}
+use Rattle.samples.specs.Samples.{samples, notsFrom, refused, unstarred, sharing}
 
 pub samples-hold : map (λ (x : List ℕ × List ℕ). x .0) samples ≡ map (λ (x : List ℕ × List ℕ). x .1) samples
-unfolding Faults.fault Faults._or-else_ Table.tempBase Table.arity Table.children Table.spanFault Table.nodeFault Table.nodesFault Table.shapeFault Table.layoutFault Table.destFault Table.lastFault Table.checkOf Tree.kindOf Tree.build Tree.treeAt Tree.tree Bits.twos Bits.isRaw Fields.rawBits Fields.wordIf Decode.signed Decode.whole Decode.ifRaw Decode.decodeOf Patch.aimWord Patch.patchOf Patch.patchAll Val.ofPair Val.allWell Val.datums Answer.isNumber Arith.ofNumbers Arith.fromInt Arith.arithOf Standing.standing Sign.negative Compare.mixed Compare.compareNumbers Compare.compareOf Not.notOf Not.negate Order.holds Exact.inRange I.checked I.exact Exact.arith I.operate FBits.read F.halvings F.toNearest F.rounded order F.ofInt Eval.leafOf Eval.unaryOf Eval.cmpOf Apply.on Apply.both Apply.whether Eval.binaryOf Eval.evalOf Evaluate.localsFault Evaluate.unless Evaluate.evaluateOf State.allocD State.destD State.slotD State.storeD Jump.patchedD Jump.leapD Literal.bits Literal.runAt Literal.runFrom Literal.bitRun Literal.litOf Fold.shiftBy Fold.shiftedBy Fold.foldBy Steps.putD Steps.constTo Steps.constD Steps.leafD Steps.putTo Steps.moveTo Jump.leapTo Jump.turnD Gen.leafV Gen.oneV Gen.twoV Gen.binaryV Gen.intoD Gen.armsD Gen.ternaryV Gen.oneB Gen.pairB Gen.compareB Gen.gen Compile.rootD Compile.generated Compile.compileOf Effect.held Effect.both Effect.rawOf Effect.inverted Step.landOf Step.wordEffect Step.stepOf Run.runFrom Run.runOf
+unfolding Faults.fault Faults._or-else_ Table.tempBase Table.arity Table.children Table.spanFault Table.nodeFault Table.nodesFault Table.shapeFault Table.layoutFault Table.destFault Table.lastFault Table.checkOf Tree.kindOf Tree.build Tree.treeAt Tree.tree Bits.twos Bits.isRaw Fields.rawBits Fields.wordIf Decode.signed Decode.whole Decode.ifRaw Decode.decodeOf Patch.aimWord Patch.patchOf Patch.patchAll Val.ofPair Val.allWell Val.datums Answer.isNumber Arith.ofNumbers Arith.fromInt Arith.arithOf Standing.standing Sign.negative Compare.mixed Compare.compareNumbers Compare.compareOf Not.notOf Not.negate Order.holds Exact.inRange I.checked I.exact Exact.arith I.operate FBits.read F.halvings F.toNearest F.rounded order F.ofInt Eval.leafOf Eval.unaryOf Eval.cmpOf Apply.on Apply.both Apply.whether Eval.binaryOf Eval.evalOf Evaluate.localsFault Evaluate.unless Evaluate.evaluateOf State.allocD State.destD State.seek State.slotD State.storeD Jump.patchedD Jump.leapD Literal.bits Literal.runAt Literal.runFrom Literal.bitRun Literal.litOf Fold.shiftBy Fold.shiftedBy Fold.foldBy Steps.putD Steps.constTo Steps.constD Steps.leafD Steps.putTo Steps.moveTo Jump.leapTo Jump.turnD Gen.leafV Gen.oneV Gen.twoV Gen.binaryV Gen.intoD Gen.armsD Gen.ternaryV Gen.oneB Gen.pairB Gen.compareB Gen.gen Compile.rootD Compile.generated Compile.compileOf Effect.held Effect.both Effect.rawOf Effect.inverted Step.landOf Step.wordEffect Step.stepOf Run.runFrom Run.runOf
 samples-hold = refl
 
 -- each number of compile has a table
 pub refused-hold : map (λ (x : List ℕ × List ℕ). x .0) refused ≡ map (λ (x : List ℕ × List ℕ). x .1) refused
-unfolding notsFrom Faults.fault Faults._or-else_ Table.tempBase Table.arity Table.children Table.spanFault Table.nodeFault Table.nodesFault Table.shapeFault Table.layoutFault Table.destFault Table.lastFault Table.checkOf Tree.kindOf Tree.build Tree.treeAt Tree.tree Bits.twos Bits.isRaw Fields.rawBits Fields.wordIf Decode.signed Decode.whole Decode.ifRaw Decode.decodeOf Patch.aimWord Patch.patchOf Patch.patchAll State.allocD State.destD State.slotD State.storeD Jump.patchedD Jump.leapD Literal.bits Literal.runAt Literal.runFrom Literal.bitRun Literal.litOf Fold.shiftBy Fold.shiftedBy Fold.foldBy Steps.putD Steps.constTo Steps.constD Steps.leafD Steps.putTo Steps.moveTo Jump.leapTo Jump.turnD Gen.leafV Gen.oneV Gen.twoV Gen.binaryV Gen.intoD Gen.armsD Gen.ternaryV Gen.oneB Gen.pairB Gen.compareB Gen.gen Compile.rootD Compile.generated Compile.compileOf
+unfolding notsFrom Faults.fault Faults._or-else_ Table.tempBase Table.arity Table.children Table.spanFault Table.nodeFault Table.nodesFault Table.shapeFault Table.layoutFault Table.destFault Table.lastFault Table.checkOf Tree.kindOf Tree.build Tree.treeAt Tree.tree Bits.twos Bits.isRaw Fields.rawBits Fields.wordIf Decode.signed Decode.whole Decode.ifRaw Decode.decodeOf Patch.aimWord Patch.patchOf Patch.patchAll State.allocD State.destD State.seek State.slotD State.storeD Jump.patchedD Jump.leapD Literal.bits Literal.runAt Literal.runFrom Literal.bitRun Literal.litOf Fold.shiftBy Fold.shiftedBy Fold.foldBy Steps.putD Steps.constTo Steps.constD Steps.leafD Steps.putTo Steps.moveTo Jump.leapTo Jump.turnD Gen.leafV Gen.oneV Gen.twoV Gen.binaryV Gen.intoD Gen.armsD Gen.ternaryV Gen.oneB Gen.pairB Gen.compareB Gen.gen Compile.rootD Compile.generated Compile.compileOf
 refused-hold = refl
 
 pub unstarred-hold : map (λ (x : List ℕ × List ℕ). x .0) unstarred ≡ map (λ (x : List ℕ × List ℕ). x .1) unstarred
-unfolding notsFrom I.shl Arith.wholeOf Eval.arithOf Faults.fault Faults._or-else_ Table.tempBase Table.arity Table.children Table.spanFault Table.nodeFault Table.nodesFault Table.shapeFault Table.layoutFault Table.destFault Table.lastFault Table.checkOf Tree.kindOf Tree.build Tree.treeAt Tree.tree Bits.twos Bits.isRaw Fields.rawBits Fields.wordIf Decode.signed Decode.whole Decode.ifRaw Decode.decodeOf Patch.aimWord Patch.patchOf Patch.patchAll Val.ofPair Val.allWell Val.datums Answer.isNumber Arith.ofNumbers Arith.fromInt Arith.arithOf Standing.standing Sign.negative Compare.mixed Compare.compareNumbers Compare.compareOf Not.notOf Not.negate Order.holds Exact.inRange I.checked I.exact Exact.arith I.operate FBits.read F.halvings F.toNearest F.rounded order F.ofInt Eval.leafOf Eval.unaryOf Eval.cmpOf Apply.on Apply.both Apply.whether Eval.binaryOf Eval.evalOf Evaluate.localsFault Evaluate.unless Evaluate.evaluateOf State.allocD State.destD State.slotD State.storeD Jump.patchedD Jump.leapD Literal.bits Literal.runAt Literal.runFrom Literal.bitRun Literal.litOf Fold.shiftBy Fold.shiftedBy Fold.foldBy Steps.putD Steps.constTo Steps.constD Steps.leafD Steps.putTo Steps.moveTo Jump.leapTo Jump.turnD Gen.leafV Gen.oneV Gen.twoV Gen.binaryV Gen.intoD Gen.armsD Gen.ternaryV Gen.oneB Gen.pairB Gen.compareB Gen.gen Compile.rootD Compile.generated Compile.compileOf Effect.held Effect.both Effect.rawOf Effect.inverted Step.landOf Step.wordEffect Step.stepOf Run.runFrom Run.runOf
+unfolding notsFrom I.shl Arith.wholeOf Eval.arithOf Faults.fault Faults._or-else_ Table.tempBase Table.arity Table.children Table.spanFault Table.nodeFault Table.nodesFault Table.shapeFault Table.layoutFault Table.destFault Table.lastFault Table.checkOf Tree.kindOf Tree.build Tree.treeAt Tree.tree Bits.twos Bits.isRaw Fields.rawBits Fields.wordIf Decode.signed Decode.whole Decode.ifRaw Decode.decodeOf Patch.aimWord Patch.patchOf Patch.patchAll Val.ofPair Val.allWell Val.datums Answer.isNumber Arith.ofNumbers Arith.fromInt Arith.arithOf Standing.standing Sign.negative Compare.mixed Compare.compareNumbers Compare.compareOf Not.notOf Not.negate Order.holds Exact.inRange I.checked I.exact Exact.arith I.operate FBits.read F.halvings F.toNearest F.rounded order F.ofInt Eval.leafOf Eval.unaryOf Eval.cmpOf Apply.on Apply.both Apply.whether Eval.binaryOf Eval.evalOf Evaluate.localsFault Evaluate.unless Evaluate.evaluateOf State.allocD State.destD State.seek State.slotD State.storeD Jump.patchedD Jump.leapD Literal.bits Literal.runAt Literal.runFrom Literal.bitRun Literal.litOf Fold.shiftBy Fold.shiftedBy Fold.foldBy Steps.putD Steps.constTo Steps.constD Steps.leafD Steps.putTo Steps.moveTo Jump.leapTo Jump.turnD Gen.leafV Gen.oneV Gen.twoV Gen.binaryV Gen.intoD Gen.armsD Gen.ternaryV Gen.oneB Gen.pairB Gen.compareB Gen.gen Compile.rootD Compile.generated Compile.compileOf Effect.held Effect.both Effect.rawOf Effect.inverted Step.landOf Step.wordEffect Step.stepOf Run.runFrom Run.runOf
 unstarred-hold = refl
+
+-- 02, W2
+pub sharing-hold : map (λ (x : List ℕ × List ℕ). x .0) sharing ≡ map (λ (x : List ℕ × List ℕ). x .1) sharing
+unfolding Faults.fault Faults._or-else_ Table.tempBase Table.arity Table.children Table.spanFault Table.nodeFault Table.nodesFault Table.shapeFault Table.layoutFault Table.destFault Table.lastFault Table.checkOf Tree.kindOf Tree.build Tree.treeAt Tree.tree Bits.twos Bits.isRaw Fields.rawBits Fields.wordIf Decode.signed Decode.whole Decode.ifRaw Decode.decodeOf Patch.aimWord Patch.patchOf Patch.patchAll State.allocD State.destD State.seek State.slotD State.storeD Jump.patchedD Jump.leapD Literal.bits Literal.runAt Literal.runFrom Literal.bitRun Literal.litOf Fold.shiftBy Fold.shiftedBy Fold.foldBy Steps.putD Steps.constTo Steps.constD Steps.leafD Steps.putTo Steps.moveTo Jump.leapTo Jump.turnD Gen.leafV Gen.oneV Gen.twoV Gen.binaryV Gen.intoD Gen.armsD Gen.ternaryV Gen.oneB Gen.pairB Gen.compareB Gen.gen Compile.rootD Compile.generated Compile.compileOf
+sharing-hold = refl

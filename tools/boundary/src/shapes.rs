@@ -7,6 +7,16 @@ pub fn chain(kind: u64, place: usize, depth: u64, leaf: (u64, u64)) -> Builder {
     links(&vec![(kind, place); depth as usize - 1], leaf)
 }
 
+/// Add over so many Floats, a power of 2, all distinct.
+pub fn distinct(leaves: u64) -> Builder {
+    let mut b = Builder::default();
+    for i in 0..leaves {
+        b.float(i as f64 + 0.1);
+        for _ in 0..(i + 1).trailing_zeros() { b.op(ADD); }
+    }
+    b
+}
+
 /// And or Or over so many Refs, as shallow as can be: a jump for each.
 pub fn junctions(refs: u64, kind: u64) -> Builder {
     let mut b = Builder::default();

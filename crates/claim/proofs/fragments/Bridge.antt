@@ -35,7 +35,8 @@ use Rattle.fold.specs.declared.How.the-variants as How
 use Rattle.fold.specs.Literal.{fitsImm40, asImm16}
 use Rattle.fold.specs.Fold.{minusOne, foldOf, tailOp, takesShift}
 use Rattle.fold.specs.Opcodes.{threeOf, mirror, branchOf}
-use Rattle.emit.specs.State.{Res, done, fail, bind, State, release, emitD}
+use Rattle.emit.specs.State.{Res, done, fail, bind, State, release, seek, fresh, emitD}
+use Rattle.claim.proofs.fragments.Shared.{seek-le, fresh-short}
 use Rattle.emit.specs.Jump.{jumpD}
 use Rattle.emit.specs.Steps.{putD, putTo, loadOp, rawNil, rawTrue, rawFalse, rawInt, constTo, constD, leafD, moveTo}
 use Rattle.emit.specs.Jump.{leapTo, oneTo, pairTo, junctionTo, trueD, boolD, turnD}
@@ -194,11 +195,11 @@ module _ (need : Amounts) (room cap slotCap : ℕ) (near : need .words ≤ far) 
       (λ t.
       met-bind _ (slot-met v c ks (dNext dst n) f' (omega linear))
       (λ w.
-      let fit = const-fits (length ks) d (omega linear) (t .low) in
+      let fit = const-fits (seek v ks) d (omega (linear, seek-le v ks)) (t .low) in
       met-then
-      (met-eq (state-eq d refl refl refl (omega linear)) (emit-met (constOp (length ks) d) d c (ks ++ v ∷ []) (dNext dst n) f' fit (omega linear)))
+      (met-eq (state-eq d refl refl refl (omega linear)) (emit-met (constOp (seek v ks) d) d c (ks ++ fresh v ks) (dNext dst n) f' fit (omega linear)))
       (λ w.
-      record { low = t .low; top = t .top; fits = (fit, tt); next = t .next; reach = omega linear; slots = omega linear; words = omega linear })))
+      record { low = t .low; top = t .top; fits = (fit, tt); next = t .next; reach = omega linear; slots = omega (linear, fresh-short v ks); words = omega linear })))
 
   int-met :
       (t : Bool) (z : ℤ) (u : Amounts) → fitsImm40 z ≡ t → 0 < u .registers → 0 < u .slots → 1 < u .words →

@@ -33,6 +33,7 @@ use Rattle.fold.specs.declared.How.the-variants as How
 use Rattle.fold.specs.Literal.{fitsImm40, asImm16}
 use Rattle.fold.specs.Fold.{foldOf, minusOne, tailOp, takesShift, Picked, one, two, comparePick}
 use Rattle.fold.specs.Opcodes.{threeOf, branchOf}
+use Rattle.emit.specs.State.{seek, fresh}
 use Rattle.emit.specs.Steps.{loadOp, rawNil, rawTrue, rawFalse, rawInt}
 use Rattle.codegen.specs.Gen.{same}
 
@@ -127,9 +128,9 @@ refF r dst n ks = record { reg = r; next = n; need = 0; consts = []; code = [] }
 abbrev pub loadF : Imm40 → ValueF
 loadF z dst n ks = opF dst n 0 [] [] (loadOp z)
 
--- a value in a fresh slot
+-- a value in the first slot that holds it, or else in a new one
 abbrev pub constF : Datum → ValueF
-constF v dst n ks = opF dst n 0 (v ∷ []) [] (constOp (length ks))
+constF v dst n ks = opF dst n 0 (fresh v ks) [] (constOp (seek v ks))
 
 abbrev pub intF : Bool → ℤ → ValueF
 intF true z = loadF (rawInt z)

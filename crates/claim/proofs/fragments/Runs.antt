@@ -5,9 +5,9 @@ use mathlib.Core.List.{List, [], _∷_, _++_, append-assoc}
 use Prim.Native.Nat.{ℕ, suc, _+_, _≤_, _<_, max}
 use native.Mathlib.Nat.{zero-add, suc-add}
 use native.Mathlib.Omega.{arith}
-use lib.ListN.{length, set, getD, length-set, length-append}
+use lib.ListN.{length, set, getD, length-set, length-append, List·getD-append}
 use lib.IntN.{pos}
-use lib.Seq.{getD-set-same, getD-set-other, getD-at}
+use lib.Seq.{getD-set-same, getD-set-other}
 use borrow.Author.Tests.{lt-ltb, le-leb}
 use Rattle.faults.specs.Numbers.{wrongKind, outOfRange}
 use Rattle.insns.specs.declared.op.Op.{Op}
@@ -21,6 +21,7 @@ use Rattle.machine.specs.Datums.{valueAt}
 use Rattle.emit.specs.declared.state.Dst.{Dst}
 use Rattle.emit.specs.declared.state.Dst.the-variants.{Any, To}
 use Rattle.codegen.specs.Gen.{same}
+use Rattle.claim.proofs.fragments.Shared.{Held}
 use Rattle.claim.proofs.fragments.Frag.{NotDst, DstLow, Vf, Bf, dReg, dNext, dNeed, jmpBy}
 
 -- ---- what a test comes to: a Bool, or the number of a fault
@@ -95,11 +96,10 @@ pub front-split : {K : List Datum} (ks cs ds : List Datum) → Front K (ks ++ (c
 front-split ks cs ds f =
     (record { behind = ds ++ f .behind; is = f .is ∙ simp append-assoc }, record { behind = f .behind; is = f .is ∙ simp append-assoc })
 
-pub front-at : {K : List Datum} (ks : List Datum) (v : Datum) → Front K (ks ++ v ∷ []) → valueAt K (length ks) ≡ is v
-front-at {K} ks v f =
-    let e : K ≡ ks ++ v ∷ f .behind = f .is ∙ append-assoc ks (v ∷ []) (f .behind) in
-    value-in K (length ks) (omega (arith, ap length e, length-append ks (v ∷ f .behind)))
-    ∙ ap is (ap (λ (l : List Datum). getD l (length ks) nil) e ∙ getD-at ks v (f .behind) nil (length ks) refl)
+pub front-has : {K : List Datum} (ks : List Datum) (k : ℕ) (v : Datum) → Held ks k v → Front K ks → valueAt K k ≡ is v
+front-has {K} ks k v h f =
+    value-in K k (omega (arith, h .inside, ap length (f .is), length-append ks (f .behind)))
+    ∙ ap is (ap (λ (l : List Datum). getD l k nil) (f .is) ∙ List·getD-append ks (f .behind) nil k (h .inside) ∙ h .is)
 
 -- what W begins with, slots that begin with W begin with
 pub front-in : {K W : List Datum} (ks : List Datum) → Front K W → Front W ks → Front K ks

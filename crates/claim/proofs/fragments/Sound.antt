@@ -22,6 +22,8 @@ use Rattle.emit.specs.declared.state.Dst.{Dst}
 use Rattle.emit.specs.declared.state.Dst.the-variants.{Any, To}
 use Rattle.codegen.specs.Gen.{same}
 use Rattle.emit.specs.Steps.{loadOp}
+use Rattle.emit.specs.State.{seek, fresh}
+use Rattle.claim.proofs.fragments.Shared.{held-at}
 use Rattle.claim.proofs.fragments.Frag.{DstLow, Vf, Bf, dReg, dNext, dNeed, constOp, movOp, aimed, jmpBy, opF, refF, leapF, moved, intoF, joinF, juncF}
 use Rattle.claim.proofs.fragments.Runs.{Truth, truth, wrong, test, sameT}
 use Rattle.claim.proofs.fragments.Runs
@@ -77,12 +79,12 @@ module _ (C : List ℕ) (W ls : List Datum) (b : ℕ) where
       (λ p q h held.
       Runs.op-runs C W ls b dst n 0 (loadOp z (dReg dst n)) (is v) low (Runs.runs-rest C W ls b n p) h (λ K rs f u. ap (write (dReg dst n)) e))
 
-  pub const-sound : (v : Datum) (dst : Dst) (n : ℕ) (ks : List Datum) → DstLow dst n → VS dst n ks (opF dst n 0 (v ∷ []) [] (constOp (length ks))) (is v)
+  pub const-sound : (v : Datum) (dst : Dst) (n : ℕ) (ks : List Datum) → DstLow dst n → VS dst n ks (opF dst n 0 (fresh v ks) [] (constOp (seek v ks))) (is v)
   const-sound v dst n ks low =
-      op-sound dst n ks 0 (v ∷ []) [] (constOp (length ks)) (is v) low
+      op-sound dst n ks 0 (fresh v ks) [] (constOp (seek v ks)) (is v) low
       (λ p q h s.
-      Runs.op-runs C W ls b dst n 0 (constOp (length ks) (dReg dst n)) (is v) low (Runs.runs-rest C W ls b n p) h
-      (λ K rs f u. ap (write (dReg dst n)) (Runs.front-at ks v (Runs.front-in (ks ++ v ∷ []) f s))))
+      Runs.op-runs C W ls b dst n 0 (constOp (seek v ks) (dReg dst n)) (is v) low (Runs.runs-rest C W ls b n p) h
+      (λ K rs f u. ap (write (dReg dst n)) (Runs.front-has (ks ++ fresh v ks) (seek v ks) v (held-at v ks) (Runs.front-in (ks ++ fresh v ks) f s))))
 
   pub ref-sound : (r : ℕ) (dst : Dst) (n : ℕ) (ks : List Datum) → r < b → b ≤ n → VS dst n ks (refF r dst n ks) (is (getD ls r nil))
   ref-sound r dst n ks h le =

@@ -1,7 +1,7 @@
 -- The steps of the generator: each gives what is written here, or is refused because less is lent than is needed.
 use mathlib.Core.Path.{_≡_, refl, sym, ap, subst}
 use mathlib.Core.Bool.{Bool, true, false, cond}
-use mathlib.Core.List.{List, [], _∷_, _++_}
+use mathlib.Core.List.{List, [], _∷_, _++_, append-nil}
 use Prim.Native.Nat.{ℕ, suc, _+_, _≤_, _<_, max}
 use native.Mathlib.Omega.{arith}
 use lib.Dec.{ltb, leb}
@@ -15,10 +15,11 @@ use Rattle.decode.specs.Patch.{Patching, patchOf, patchAll}
 use Rattle.value.specs.Value.{Datum}
 use Rattle.emit.specs.declared.state.Dst.{Dst}
 use Rattle.emit.specs.declared.state.Dst.the-variants.{Any, To}
-use Rattle.emit.specs.State.{Res, done, fail, bind, State, allocD, destD, slotD, storeD, emitD}
+use Rattle.emit.specs.State.{Res, done, fail, bind, State, allocD, destD, seek, fresh, slotD, storeD, emitD}
 use Rattle.emit.specs.Jump.{patchedD, patchD, patchesD, leapD, jumpD}
 use Rattle.emit.specs.Steps.{putD}
 use Rattle.claim.specs.Refusals.{Amounts, lent, Lacks, register, slot, word, place}
+use Rattle.claim.proofs.fragments.Shared.{seek-none}
 use Rattle.claim.proofs.fragments.Frag.{DstLow, dReg, dNext, dNeed}
 use Rattle.claim.proofs.fragments.Fits.{word as wordOf, Fits, made}
 use Rattle.claim.proofs.fragments.Open.{patched}
@@ -82,13 +83,22 @@ module _ {need : Amounts} {places cap slotCap : ℕ} where
   dest-met (To d) c ks n f top low few =
       met-eq (state-eq d refl refl refl (omega arith)) (met refl (record { low = low; top = top; next = omega arith; reach = omega arith }))
 
+  slot-by :
+      (t : Bool) (v : Datum) (c : List ℕ) (ks : List Datum) (n f : ℕ) → length ks < need .slots → ltb (seek v ks) (length ks) ≡ t →
+      Met {A = ℕ × State} (Lacking need places cap slotCap)
+      (cond t (done (seek v ks, st cap slotCap c ks n f)) (cond (ltb (length ks) slotCap) (done (length ks, st cap slotCap c (ks ++ v ∷ []) n f)) (fail noSlot)))
+      (seek v ks, st cap slotCap c (ks ++ cond t [] (v ∷ [])) n f) (Unit {0})
+  slot-by true v c ks n f few e = met-eq (state-eq (seek v ks) refl (sym (append-nil ks)) refl refl) (met refl tt)
+  slot-by false v c ks n f few e =
+      rw (seek-none v ks e)
+      (met-cond (ltb (length ks) slotCap) (length ks, st cap slotCap c (ks ++ v ∷ []) n f) noSlot
+      (λ h. slot (omega (arith, ltb-false (length ks) slotCap h))) (λ h. tt))
+
   pub slot-met :
       (v : Datum) (c : List ℕ) (ks : List Datum) (n f : ℕ) → length ks < need .slots →
-      Met (Lacking need places cap slotCap) (slotD v (st cap slotCap c ks n f)) (length ks, st cap slotCap c (ks ++ v ∷ []) n f) (Unit {0})
+      Met (Lacking need places cap slotCap) (slotD v (st cap slotCap c ks n f)) (seek v ks, st cap slotCap c (ks ++ fresh v ks) n f) (Unit {0})
   unfolding slotD
-  slot-met v c ks n f few =
-      met-cond (ltb (length ks) slotCap) (length ks, st cap slotCap c (ks ++ v ∷ []) n f) noSlot
-      (λ h. slot (omega (arith, ltb-false (length ks) slotCap h))) (λ h. tt)
+  slot-met v c ks n f few = slot-by (ltb (seek v ks) (length ks)) v c ks n f few refl
 
   -- words
 

@@ -7,7 +7,7 @@ use native.Mathlib.Nat.{pos-of-ne-zero}
 use native.Mathlib.Numerals.{add-one}
 use native.Mathlib.Omega.{arith}
 use lib.Dec.{eqb}
-use lib.ListN.{length, take, drop, set, getD, replicate, length-set, length-drop, length-append, length-replicate, getD-replicate}
+use lib.ListN.{length, take, drop, set, getD, replicate, length-set, length-drop, length-append}
 use lib.Seq.{length-take-le, take-suc, take-suc-set, take-add, take-at, getD-drop, drop-cons, drop-set-lt, drop-drop}
 use borrow.Author.Tests.{lt-ltb, eq-eqb, ne-eqb}
 use Rattle.faults.specs.Numbers.{noRoom}
@@ -28,6 +28,7 @@ use Rattle.emit.specs.Jump.{jmpOp, howOp, leapTo, junctionTo, turnD, tru
 use Rattle.emit.specs.Steps.{loadOp, rawTrue, rawFalse}
 use Rattle.emit.specs.Read.{Bufs, bufs, stOf, freed, Fit, FitAns, Says, Steps, After}
 use Rattle.emit.specs.Lists.{Jumping, AfterJumping, patchedAns, Counted, Joinable, Joined}
+use Rattle.emit.proofs.ConstLaws.{zeros-held}
 use Rattle.emit.proofs.Laws.{go, stop, kept, says-by, passed, came, fit-free}
 
 -- a refusal is the definition's
@@ -38,13 +39,13 @@ fails k e h = rw (← h .is, e)
 
 pub jump-none : (c js : List ℕ) (st : St) (made : Made) → length js ≡ 0 → Jumping c c js st (J.No noRoom) (leapD made (length js))
 unfolding leapD
-jump-none c js st made h t k fit = record { is = rw h; fit = tt }
+jump-none c js st made h ks ps fit = record { is = rw h; fit = tt }
 
 module _ {c c' : List ℕ} (js : List ℕ) {st : St} (made : Made) {x : Ans} (some : length js ≡ 0 → ⊥) (h : Steps c c' st x (storeD made 0)) where
   pub jump-made : {d : ℕ} {s : St} → x ≡ Got d s → Jumping c c' (set js 0 (st .count)) st (J.Are 1 s) (leapD made (length js))
   unfolding leapD
-  jump-made e t k fit =
-      let q = h t k fit in
+  jump-made e ks ps fit =
+      let q = h ks ps fit in
       let p : 0 < length js = pos-of-ne-zero some in
       let w : length (take (st .count) c) ≡ st .count = length-take-le _ _ (fit .words) in
       record {
@@ -54,19 +55,19 @@ module _ {c c' : List ℕ} (js : List ℕ) {st : St} (made : Made) {x : Ans} (so
 
   pub jump-refused : {n : ℕ} → x ≡ No n → Jumping c c' js st (J.No n) (leapD made (length js))
   unfolding leapD
-  jump-refused e t k fit =
-      let q = h t k fit in
+  jump-refused e ks ps fit =
+      let q = h ks ps fit in
       let p : 0 < length js = pos-of-ne-zero some in
       record { is = rw (lt-ltb 0 (length js) p) (fails (λ y. done (length (take (st .count) c) ∷ [], y .1)) e q); fit = tt }
 
 pub leap-stop : (c js : List ℕ) {x : Ans} {n : ℕ} (f : ℕ × State → Res (List ℕ × State)) → x ≡ No n → AfterJumping c c js x (J.No n) f
-leap-stop c js f e t k fit = record { is = rw e; fit = tt }
+leap-stop c js f e ks ps fit = record { is = rw e; fit = tt }
 
 pub leap-go : {c c' js : List ℕ} {x : Ans} {a : ℕ} {s z : St} {mark : ℕ} {made : Made} {r : Jumps} (op : ℕ → Op) (room : ℕ) → x ≡ Got a s → z ≡ freed s mark → made ≡ madeOf (op a)
     → Jumping c c' js z r (leapD made room) → AfterJumping c c' js x r (leapTo op room mark)
 unfolding leapTo
-leap-go op room got free m h t k fit =
-    let q = h t k (fit-free free (rw got at fit)) in
+leap-go op room got free m h ks ps fit =
+    let q = h ks ps (fit-free free (rw got at fit)) in
     record { is = q .is ∙ rw (got, m, free); fit = q .fit }
 
 pub how-arm : {how arm : How} (a : ℕ) {r : Made} → how ≡ arm → r ≡ madeOf (howOp arm a) → r ≡ madeOf (howOp how a)
@@ -85,55 +86,53 @@ module _ (p : Patched) (d : ℕ) (st : St) {f : ℕ} (e : f ≡ patchedNumber p)
 
 module _ {c ws : List ℕ} {st : St} {a : Patched} {r : Ans} (d : ℕ) (ans : r ≡ patchedAns a d st) where
   -- the words before the state's end were patched, as q says
-  patched-by : (q : Patching) → a ≡ q .answer → ws ≡ q .words → length ws ≡ st .count → (t k : List ℕ) → Fit (bufs t c k) st
-      → Says (bufs t (ws ++ drop (st .count) c) k) r (patchedD q d (stOf (bufs t c k) st))
+  patched-by : (q : Patching) → a ≡ q .answer → ws ≡ q .words → length ws ≡ st .count → (ks ps : List ℕ) → Fit (bufs c ks ps) st
+      → Says (bufs (ws ++ drop (st .count) c) ks ps) r (patchedD q d (stOf (bufs c ks ps) st))
   unfolding patchedD
-  patched-by q e w l t k fit = rw (ans, ← e) (go' (eqb (patchedNumber a) 0))
+  patched-by q e w l ks ps fit = rw (ans, ← e) (go' (eqb (patchedNumber a) 0))
     where
       all : length (ws ++ drop (st .count) c) ≡ length c
       all = let g = fit .words in simp (length-append, length-drop) (omega arith)
 
-      go' : (b : Bool) → Says (bufs t (ws ++ drop (st .count) c) k) (cond b (Got d st) (No (patchedNumber a)))
-          (cond b (done (d, withWords (q .words) (stOf (bufs t c k) st))) (fail (patchedNumber a)))
+      go' : (b : Bool) → Says (bufs (ws ++ drop (st .count) c) ks ps) (cond b (Got d st) (No (patchedNumber a)))
+          (cond b (done (d, withWords (q .words) (stOf (bufs c ks ps) st))) (fail (patchedNumber a)))
       go' true = record {
         is = rw (take-at ws (drop (st .count) c) (st .count) l, all, w);
-        fit = record { words = rw all (fit .words); consts = fit .consts; named = fit .named };
+        fit = record { words = rw all (fit .words); consts = fit .consts };
       }
       go' false = record { is = refl; fit = tt }
 
   module _ (in-code : st .count ≤ length c) (same : length ws ≡ length (take (st .count) c)) where
     pub patch-is : (p : ℕ) → a ≡ patchOf (take (st .count) c) p (st .count) .answer → ws ≡ patchOf (take (st .count) c) p (st .count) .words
         → Steps c (ws ++ drop (st .count) c) st r (patchD p d)
-    patch-is p e w t k fit =
+    patch-is p e w ks ps fit =
         let size : length (take (st .count) c) ≡ st .count = length-take-le (st .count) c in-code in
-        rw size (patched-by (patchOf (take (st .count) c) p (st .count)) e w (same ∙ size) t k fit)
+        rw size (patched-by (patchOf (take (st .count) c) p (st .count)) e w (same ∙ size) ks ps fit)
 
     pub patches-are : (js : List ℕ) → a ≡ patchAll (take (st .count) c) js (st .count) .answer → ws ≡ patchAll (take (st .count) c) js (st .count) .words
         → Steps c (ws ++ drop (st .count) c) st r (patchesD js d)
-    patches-are js e w t k fit =
+    patches-are js e w ks ps fit =
         let size : length (take (st .count) c) ≡ st .count = length-take-le (st .count) c in-code in
-        rw size (patched-by (patchAll (take (st .count) c) js (st .count)) e w (same ∙ size) t k fit)
+        rw size (patched-by (patchAll (take (st .count) c) js (st .count)) e w (same ∙ size) ks ps fit)
 
 pub ruleset patches = (patched-no, patched-got, patch-is, patches-are, length-take-le)
 
 -- ---- one step after another
 
--- words that are in the buffer make some buffers fit
-some-fit : (c : List ℕ) (st : St) → st .count ≤ length c → Fit (bufs (0 ∷ 0 ∷ 0 ∷ 0 ∷ []) c (replicate {A = ℕ} (st .slots) 0)) st
-some-fit c st h =
-    record {
-      words = h;
-      consts = rw (length-replicate {A = ℕ} (st .slots) 0) (omega arith);
-      named = λ k l. rw (getD-replicate {A = ℕ} (st .slots) k 0 0 l) (omega arith);
-    }
+-- words that are in the buffer make some buffers fit: with slots of zeros
+abbrev zeros : ℕ → List ℕ
+zeros n = replicate {A = ℕ} n 0
+
+some-fit : (c : List ℕ) (st : St) → st .count ≤ length c → Fit (bufs c (zeros (st .slots)) (zeros (st .slots))) st
+some-fit c st h = record { words = h; consts = zeros-held (st .slots) }
 
 -- what a step leaves is in the buffer, whatever the other buffers hold
 module _ {c c' : List ℕ} {st : St} {x : Ans} {m : List ℕ → List ℕ → Res (ℕ × State)} (in-code : st .count ≤ length c)
-    (h : (t k : List ℕ) → Fit (bufs t c k) st → Says (bufs t c' k) x (m t k)) where
+    (h : (ks ps : List ℕ) → Fit (bufs c ks ps) st → Says (bufs c' ks ps) x (m ks ps)) where
   pub counted : Counted c' x
   counted = go' x (h _ _ (some-fit c st in-code) .fit)
     where
-      go' : (y : Ans) → FitAns (bufs (0 ∷ 0 ∷ 0 ∷ 0 ∷ []) c' (replicate {A = ℕ} (st .slots) 0)) y → Counted c' y
+      go' : (y : Ans) → FitAns (bufs c' (zeros (st .slots)) (zeros (st .slots))) y → Counted c' y
       go' (Got d s) f = f .words
       go' (No n) f = tt
 
@@ -146,43 +145,43 @@ counted-got c e h = rw e at h
 module _ {c c1 : List ℕ} {st : St} {x : Ans} (js : List ℕ) (d : ℕ) where
   pub turn-stop : {n : ℕ} → x ≡ No n → Steps c c1 st x (emitD jmpOp d) → Steps c c1 st x (turnD js d)
   unfolding turnD
-  turn-stop e h t k fit = stop _ e (h t k fit)
+  turn-stop e h ks ps fit = stop _ e (h ks ps fit)
 
   pub turn-go : {a : ℕ} {s : St} {c2 : List ℕ} {r : Ans} → x ≡ Got a s → Steps c c1 st x (emitD jmpOp d) → Steps c1 c2 s r (patchesD js d) → Steps c c2 st r (turnD js d)
   unfolding turnD
-  turn-go e h g t k fit = let z = h t k fit in says-by (go (λ y. patchesD js d (y .1)) e z) (g t k (kept e z))
+  turn-go e h g ks ps fit = let z = h ks ps fit in says-by (go (λ y. patchesD js d (y .1)) e z) (g ks ps (kept e z))
 
   pub true-stop : (p : ℕ) {n : ℕ} → x ≡ No n → Steps c c1 st x (patchesD js d) → Steps c c1 st x (trueD js p d)
   unfolding trueD
-  true-stop p e h t k fit = stop _ e (h t k fit)
+  true-stop p e h ks ps fit = stop _ e (h ks ps fit)
 
   pub true-go : (p : ℕ) {a : ℕ} {s : St} {c2 c3 : List ℕ} {y r : Ans} → x ≡ Got a s → Steps c c1 st x (patchesD js d) → Steps c1 c2 s y (emitD (loadOp rawTrue d) d)
       → After c2 c3 y r (λ z. patchD p d (z .1)) → Steps c c3 st r (trueD js p d)
   unfolding trueD
-  true-go p e h g f t k fit =
-      let z = h t k fit in
-      let w = g t k (kept e z) in
-      let q = f t k (w .fit) in
+  true-go p e h g f ks ps fit =
+      let z = h ks ps fit in
+      let w = g ks ps (kept e z) in
+      let q = f ks ps (w .fit) in
       says-by (ap (λ (m : Res (ℕ × State)). bind m (λ z. patchD p d (z .1))) (w .is) ∙ go (λ y. bind (emitD (loadOp rawTrue d) d (y .1)) (λ z. patchD p d (z .1))) e z) q
 
   pub bool-stop : {n : ℕ} → x ≡ No n → Steps c c1 st x (emitD (loadOp rawFalse d) d) → Steps c c1 st x (boolD js d)
   unfolding boolD
-  bool-stop e h t k fit = stop _ e (h t k fit)
+  bool-stop e h ks ps fit = stop _ e (h ks ps fit)
 
   module _ {a : ℕ} {s : St} {c2 : List ℕ} {y : Ans} (e : x ≡ Got a s) (h : Steps c c1 st x (emitD (loadOp rawFalse d) d)) (g : Steps c1 c2 s y (emitD jmpOp d)) where
     pub bool-halt : {n : ℕ} → y ≡ No n → Steps c c2 st y (boolD js d)
     unfolding boolD
-    bool-halt q t k fit =
-        let z = h t k fit in
-        says-by (go (λ y. bind (emitD jmpOp d (y .1)) (λ w. trueD js (here (y .1)) d (w .1))) e z) (stop _ q (g t k (kept e z)))
+    bool-halt q ks ps fit =
+        let z = h ks ps fit in
+        says-by (go (λ y. bind (emitD jmpOp d (y .1)) (λ w. trueD js (here (y .1)) d (w .1))) e z) (stop _ q (g ks ps (kept e z)))
 
     pub bool-go : {a' : ℕ} {s' : St} {c3 : List ℕ} {r : Ans} → y ≡ Got a' s' → Steps c2 c3 s' r (trueD js (s .count) d) → Steps c c3 st r (boolD js d)
     unfolding boolD
-    bool-go q f t k fit =
-        let z = h t k fit in
-        let w = g t k (kept e z) in
+    bool-go q f ks ps fit =
+        let z = h ks ps fit in
+        let w = g ks ps (kept e z) in
         let l : length (take (s .count) c1) ≡ s .count = length-take-le _ _ (kept e z .words) in
-        says-by (go (λ w. trueD js (s .count) d (w .1)) q w ∙ ap (λ (n : ℕ). bind (emitD jmpOp d (stOf (bufs t c1 k) s)) (λ w. trueD js n d (w .1))) (sym l) ∙ go (λ y. bind (emitD jmpOp d (y .1)) (λ w. trueD js (here (y .1)) d (w .1))) e z) (f t k (kept q w))
+        says-by (go (λ w. trueD js (s .count) d (w .1)) q w ∙ ap (λ (n : ℕ). bind (emitD jmpOp d (stOf (bufs c1 ks ps) s)) (λ w. trueD js n d (w .1))) (sym l) ∙ go (λ y. bind (emitD jmpOp d (y .1)) (λ w. trueD js (here (y .1)) d (w .1))) e z) (f ks ps (kept q w))
 
 pub ruleset chains = (counted-got, passed, came, turn-stop, turn-go, true-stop, true-go, bool-stop, bool-halt, bool-go)
 
@@ -209,7 +208,7 @@ module _ (old now : List ℕ) (n j : ℕ) (room : n + j < length old) (same : le
 
 -- both sides of And or Or
 pub join-stop : (c js js' : List ℕ) (same : Bool) (n : ℕ) {y : Jumps} {f : ℕ} → y ≡ J.No f → Joined c c js js' same n y y
-join-stop c js js' same n e t k fit = record { is = rw e; fit = rw e tt }
+join-stop c js js' same n e ks ps fit = record { is = rw e; fit = rw e tt }
 
 module _ {c js : List ℕ} {n m : ℕ} {y : Jumps} {s : St} (ready : Joinable c js n y) (e : y ≡ J.Are m s) where
   pub join-room : n + m ≤ length js
@@ -217,7 +216,7 @@ module _ {c js : List ℕ} {n m : ℕ} {y : Jumps} {s : St} (ready : Joinable c 
 
   pub join-same : {same : Bool} → same ≡ true → Joined c c js js same n y (J.Are (n + m) s)
   unfolding junctionTo
-  join-same g t k fit =
+  join-same g ks ps fit =
       let f = rw e at fit in
       record { is = rw (e, g, take-add n m js); fit = (f .0, join-room) }
 
@@ -227,15 +226,15 @@ module _ {c js : List ℕ} {n m : ℕ} {y : Jumps} {s : St} (ready : Joinable c 
   module _ {c' : List ℕ} {z : Ans} {same : Bool} (no : same ≡ false) (h : Steps c c' s z (patchesD (take n js) 0)) where
     pub join-refused : {f : ℕ} → z ≡ No f → Joined c c' js js same n y (J.No f)
     unfolding junctionTo
-    join-refused q t k fit =
+    join-refused q ks ps fit =
         let f = rw e at fit in
-        record { is = rw (e, no) (fails (λ w. done (take m (drop n js), w .1)) q (h t k (f .0))); fit = tt }
+        record { is = rw (e, no) (fails (λ w. done (take m (drop n js), w .1)) q (h ks ps (f .0))); fit = tt }
 
     pub join-moved : {d : ℕ} {s' : St} {js' : List ℕ} → z ≡ Got d s' → take m js' ≡ take m (drop n js) → length js' ≡ length js → Joined c c' js js' same n y (J.Are m s')
     unfolding junctionTo
-    join-moved q moved kept' t k fit =
+    join-moved q moved kept' ks ps fit =
         let f = rw e at fit in
-        let w = h t k (f .0) in
+        let w = h ks ps (f .0) in
         let r = join-room in
         record { is = rw (e, no, moved) (go (λ w. done (take m (drop n js), w .1)) q w); fit = (kept q w, omega arith) }
 

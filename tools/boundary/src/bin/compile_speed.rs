@@ -28,8 +28,12 @@ struct Way { name: &'static str, lent: Vec<Made> }
 
 /// Prints ns a node of the Rust and of its generator alone, then ns and the
 /// ratio to the Rust for each way of lending, the first also to its generator.
-fn measure(name: &str, jobs: &[Job], rounds: u64) {
+fn measure(name: &str, jobs: &[Job], rounds: u64) { measure_by(name, jobs, rounds, false) }
+
+/// The same; `indexed`: the Rust finds equal constants by a hash map, not by a search.
+fn measure_by(name: &str, jobs: &[Job], rounds: u64, indexed: bool) {
     let mut h = house::Oracle::new();
+    if indexed { h.actor.index = Some(Default::default()) }
     let fun = house::function(jobs[0].params as u32, jobs[0].locals as u32);
     let nodes: usize = jobs.iter().map(|j| j.table.len() / 4).sum();
     let made: Vec<_> = jobs.iter().map(|j| h.compile(j).expect("an accepted job")).collect();
@@ -92,5 +96,11 @@ fn main() {
         ("64 levels of Ternary, tests", shapes::chain(TERNARY, 0, 64, (REF, 0))),
     ] {
         measure(name, &[b.job(4)], rounds);
+    }
+    // constants that are all distinct: the search for an equal slot is as long as it can be
+    for leaves in [64, 512, 2_048] {
+        let job = [shapes::distinct(leaves).job(4)];
+        measure(&format!("{} distinct Floats", leaves), &job, rounds);
+        measure_by("  the Rust with a hash map", &job, rounds, true);
     }
 }

@@ -154,12 +154,12 @@ fn measure(s: &mut Stack, limit: Limit, random: u64, nodes: &mut ByNodes) -> Mos
 struct ByNodes { over: Vec<String> }
 
 /// For each of `NAMES`: bytes whatever the table, and bytes a node; for compile also those of the jump list that it brings.
-const TOLD: [(usize, usize); 4] = [(2_048, 480), (1_024, 480), (256, 240), (1_024, 0)];
+const TOLD: [(usize, usize); 4] = [(2_048, 624), (1_024, 624), (256, 240), (1_024, 0)];
 
 /// A jump list of crates/compile: for up to so many nodes; its bytes, and what a table of so many nodes reserves at most.
 struct List { nodes: usize, bytes: usize, reserve: usize }
-const LISTS: [List; 4] = [List { nodes: 64, bytes: 256, reserve: 40 << 10 }, List { nodes: 512, bytes: 2_560, reserve: 144 << 10 },
-    List { nodes: 4_096, bytes: 17_408, reserve: 160 << 10 }, List { nodes: MAX_NODES, bytes: 264_192, reserve: RESERVE[0] }];
+const LISTS: [List; 4] = [List { nodes: 64, bytes: 256, reserve: 48 << 10 }, List { nodes: 512, bytes: 2_560, reserve: 192 << 10 },
+    List { nodes: 4_096, bytes: 17_408, reserve: 208 << 10 }, List { nodes: MAX_NODES, bytes: 264_192, reserve: RESERVE[0] }];
 
 impl ByNodes {
     fn bound(n: usize) -> Taken {
@@ -301,7 +301,7 @@ fn bound(all: &BTreeMap<String, Frame>, cycles: &[Cycle], f: &str) -> i64 {
 }
 
 /// What docs/STACK.md tells a caller to reserve, in the order of `NAMES`.
-const RESERVE: Taken = [416 << 10, 144 << 10, 48 << 10, 1 << 10];
+const RESERVE: Taken = [448 << 10, 188 << 10, 48 << 10, 1 << 10];
 
 /// A chain as deep as may be that takes most of compile_with: comparisons, to
 /// the right, over one And.

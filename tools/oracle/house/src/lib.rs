@@ -40,4 +40,7 @@ include!("../../shims/parts/stubs.rs");
 
 pub fn pair(v: value::Value) -> (u8, u64) { v.pair() }
 
+/// 02, W2; a runner may turn it off in an `Actor`
+pub const SHARES: bool = true;
+
 include!("../../shims/parts/driver.rs");

@@ -30,4 +30,7 @@ pub fn pair(v: value::Value) -> (u8, u64)
     if v.is_nil() { (0, 0) } else { (1, v.as_bool() as u64) }
 }
 
+/// A fresh slot for each constant, as it was before 02, W2
+pub const SHARES: bool = false;
+
 include!("../../shims/parts/driver.rs");

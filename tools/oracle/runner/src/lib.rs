@@ -6,19 +6,20 @@ use tables::opcodes::{pack, unpack, OPCODES};
 use tables::*;
 
 /// The published answer rewritten into the house answer, or none if a word
-/// is not one that the generator emits. `seen` collects the differences met.
-pub fn rewrite(c: &Compiled, seen: &mut Vec<&'static str>) -> Option<Compiled> {
+/// is not one that the generator emits. `shared`: equal constants share a
+/// slot. `seen` collects the differences met.
+pub fn rewrite(c: &Compiled, shared: bool, seen: &mut Vec<&'static str>) -> Option<Compiled> {
     let mut out = Compiled { words: vec![], consts: vec![], reg: c.reg, frame: c.frame };
     for w in &c.words {
         let (mut op, mut v) = unpack(*w, true)?;
         match OPCODES[op].0 {
             // slots are handed out in emission order in both modes
-            "load_const" => v[1] = slot(&mut out.consts, c.consts[v[1] as usize]),
+            "load_const" => v[1] = slot(&mut out.consts, c.consts[v[1] as usize], shared, seen),
             "load_imm40" if v[1] & 3 == 0 => {}
             "load_imm40" if v[1] & 3 == 2 => {
                 seen.push("Float in load_imm40");
                 op += 2;
-                v[1] = slot(&mut out.consts, published::pair(published::value::Value::from_raw_bits(v[1] as u64)));
+                v[1] = slot(&mut out.consts, published::pair(published::value::Value::from_raw_bits(v[1] as u64)), shared, seen);
             }
             "load_imm40" => {
                 seen.push("raw bits of Nil, False, True");
@@ -36,20 +37,65 @@ pub fn rewrite(c: &Compiled, seen: &mut Vec<&'static str>) -> Option<Compiled> {
 /// Whether the list of differences makes the published answer to a job the
 /// house answer, to the last bit.
 pub fn explained(h: &mut house::Oracle, job: &Job, published: &Result<Compiled, Refused>, house: &Result<Compiled, Refused>, seen: &mut Vec<&'static str>) -> bool {
-    if let (Ok(a), Ok(b)) = (published, house) { return rewrite(a, seen).as_ref() == Some(b) }
-    let Some(fewer) = fewer_slots(job) else { return matches!((published, house), (Err(x), Err(y)) if x == y) };
+    if let (Ok(a), Ok(b)) = (published, house) { return rewrite(a, true, seen).as_ref() == Some(b) }
+    let fresh = unshared(h, job);
+    as_published(h, job, published, &fresh, seen) && shared(h, job, &fresh, house, seen)
+}
+
+/// The house answer where each constant takes a fresh slot.
+fn unshared(h: &mut house::Oracle, job: &Job) -> Result<Compiled, Refused> {
+    h.actor.shares = false;
+    let answer = h.compile(job);
+    h.actor.shares = true;
+    answer
+}
+
+/// The published answer against the house answer with fresh slots.
+fn as_published(h: &mut house::Oracle, job: &Job, published: &Result<Compiled, Refused>, fresh: &Result<Compiled, Refused>, seen: &mut Vec<&'static str>) -> bool {
+    if let (Ok(a), Ok(b)) = (published, fresh) { return rewrite(a, false, seen).as_ref() == Some(b) }
+    let Some(fewer) = fewer_slots(job) else { return matches!((published, fresh), (Err(x), Err(y)) if x == y) };
     // the published mode asks for fewer slots: where house gives 6 it goes on, and gives what house gives with those slots not asked for
-    match (published, h.compile(&fewer)) {
+    match (published, unshared(h, &fewer)) {
         (Err(x), Err(y)) => {
-            if Err(y) != *house { seen.push("Float in load_imm40 (slots run out)") }
-            *x == y && (Err(y) == *house || *house == Err(Refused(6)))
+            if Err(y) != *fresh { seen.push("Float in load_imm40 (slots run out)") }
+            *x == y && (Err(y) == *fresh || *fresh == Err(Refused(6)))
         }
         (Ok(a), Ok(_)) => {
             seen.push("Float in load_imm40 (slots run out)");
-            *house == Err(Refused(6)) && rewrite(a, seen) == h.compile(&Job { max_slots: usize::MAX, ..job.clone() }).ok()
+            *fresh == Err(Refused(6)) && rewrite(a, false, seen) == unshared(h, &Job { max_slots: usize::MAX, ..job.clone() }).ok()
         }
         _ => false,
     }
+}
+
+/// The house answer with fresh slots against the one with shared slots: where
+/// fresh slots run out, sharing goes on to what there is with slots enough, or
+/// to 6 where the distinct constants are too many as well.
+fn shared(h: &mut house::Oracle, job: &Job, fresh: &Result<Compiled, Refused>, house: &Result<Compiled, Refused>, seen: &mut Vec<&'static str>) -> bool {
+    match fresh {
+        Ok(a) => house.as_ref().ok() == Some(&share(a, seen)),
+        Err(Refused(6)) => match unshared(h, &Job { max_slots: usize::MAX, ..job.clone() }) {
+            Ok(a) => {
+                let all = share(&a, seen);
+                let fits = all.consts.len() <= job.max_slots;
+                if fits { seen.push("equal constants share a slot (slots suffice)") }
+                if fits { house.as_ref().ok() == Some(&all) } else { *house == Err(Refused(6)) }
+            }
+            later => *house == Err(Refused(6)) || *house == later,
+        },
+        same => house == same,
+    }
+}
+
+/// A house answer with fresh slots, its equal constants put in one slot.
+fn share(c: &Compiled, seen: &mut Vec<&'static str>) -> Compiled {
+    let mut out = Compiled { words: vec![], consts: vec![], reg: c.reg, frame: c.frame };
+    for w in &c.words {
+        let (op, mut v) = unpack(*w, false).expect("a word of the house");
+        if OPCODES[op].0 == "load_const" { v[1] = slot(&mut out.consts, c.consts[v[1] as usize], true, seen) }
+        out.words.push(pack(op, &v, false).expect("a slot before it"));
+    }
+    out
 }
 
 /// The job with a Nil for each Float that the published mode puts in
@@ -93,7 +139,12 @@ fn rename(table: &[u64], dst: Option<u64>) -> Vec<u64> {
     t
 }
 
-fn slot(consts: &mut Vec<(u8, u64)>, pair: (u8, u64)) -> i64 {
+/// The slot of a constant: the first that holds it if slots are shared, or a new one.
+fn slot(consts: &mut Vec<(u8, u64)>, pair: (u8, u64), shared: bool, seen: &mut Vec<&'static str>) -> i64 {
+    if let Some(at) = consts.iter().position(|c| shared && *c == pair) {
+        seen.push("equal constants share a slot");
+        return at as i64
+    }
     consts.push(pair);
     consts.len() as i64 - 1
 }

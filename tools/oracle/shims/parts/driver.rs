@@ -70,6 +70,7 @@ impl Oracle
         let a = &mut self.actor;
         a.insns.clear();
         a.consts.clear();
+        if let Some(x) = &mut a.index { x.clear() }
         a.alloc.reset();
         a.max_words = max_words;
         a.max_slots = max_slots;

@@ -47,12 +47,27 @@ fn main() {
     both("4 Float 0.1", &b().float(0.1).job(1), tenth, tenth);
     let none = Job { max_slots: 0, ..flonum };
     both("5 no slots lent", &none, "load_imm40 1, 14 (0xe000103), slots [], register 1, frame 2", "refused with 6");
+    // 11: equal constants. Slots for both, for one, for none
+    let twice = b().float(0.1).float(0.1).op(ADD).job(1);
+    let apart = "load_const 1, 0 (0x105); load_const 2, 1 (0x100000205); add 1, 1, 2 (0x2000001000112), slots [(3, 3fb999999999999a), (3, 3fb999999999999a)], register 1, frame 3";
+    let shared = "load_const 1, 0 (0x105); load_const 2, 0 (0x205); add 1, 1, 2 (0x20001000112), slots [(3, 3fb999999999999a)], register 1, frame 3";
+    for (slots, theirs, ours) in [(2, apart, shared), (1, "refused with 6", shared), (0, "refused with 6", "refused with 6")] {
+        let lent = Job { max_slots: slots, ..twice.clone() };
+        both(&format!("11 0.1 + 0.1, {slots} slots"), &lent, theirs, ours);
+    }
     // the row explains that answer of the published mode, and no other: another number, another word, 6 where nothing was asked for
     let (right, ours) = (p.compile(&none), h.compile(&none));
     let another = right.clone().map(|c| Compiled { words: vec![c.words[0] ^ 1 << 16], ..c });
     for (what, answer, says) in [("the published answer", &right, "true"), ("5", &Err(Refused(5)), "false"), ("6", &Err(Refused(6)), "false"), ("7", &Err(Refused(7)), "false"), ("another register", &another, "false")] {
         side("5 explained", what, explained(&mut h, &none, answer, &ours, &mut vec![]).to_string(), says);
     }
+
+    // 11, the house alone: what differs in a bit or in the kind is apart, and an immediate takes no slot
+    let mut only = |row: &str, tree: &mut Builder, says: &str| side(row, "house", show(&h.compile(&Job { max_slots: 1, ..tree.job(1) }), false), says);
+    only("11 0.0 + -0.0, 1 slot", b().float(0.0).float(-0.0).op(ADD), "refused with 6");
+    only("11 Int and Float of one pattern, 1 slot", b().int(0x3FF0 << 48).float(1.0).op(ADD), "refused with 6");
+    only("11 2^37 - 1 twice, 1 slot", b().int((1 << 37) - 1).int((1 << 37) - 1).op(ADD),
+         "load_imm40 1, 549755813884 (0x7ffffffffc000103); load_imm40 2, 549755813884 (0x7ffffffffc000203); add 1, 1, 2 (0x20001000112), slots [], register 1, frame 3");
 
     // 6 to 8: patch_jump and decoding. A word that decodes is printed by the given display
     let jmp = [published::insns::Insn::jmp(0)];

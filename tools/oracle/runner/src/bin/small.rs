@@ -16,7 +16,7 @@ fn main() {
             job.dst = dst;
             count += 1;
             let (a, c) = (p.compile(&job).unwrap(), h.compile(&job).unwrap());
-            let mut good = rewrite(&a, &mut vec![]).as_ref() == Some(&c);
+            let mut good = rewrite(&a, true, &mut vec![]).as_ref() == Some(&c);
             let slots: Vec<V> = c.consts.iter().map(|p| V::from_pair(*p).unwrap()).collect();
             for l in locals {
                 let mut regs = vec![V::Nil; c.frame as usize];

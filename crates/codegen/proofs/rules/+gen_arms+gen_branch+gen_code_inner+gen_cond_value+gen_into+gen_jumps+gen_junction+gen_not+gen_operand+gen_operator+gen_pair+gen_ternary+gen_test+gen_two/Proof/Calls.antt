@@ -12,8 +12,8 @@ use Rattle.codegen.proofs.rules.+gen_arms+gen_branch+gen_code_inner+gen
 module _ (t : ℕ) where
   pub gen-operand-holds : (M : Type 1) → gen-operand-lts.Closed (gen-code-inner-below t, gen-code-inner.Post) (gen-operand-at t) gen-operand.Post M
   gen-operand-holds M =
-      gen-operand-lts.spec (gen-code-inner-below t, gen-code-inner.Post) (gen-operand-at t) gen-operand.Post (λ c κs. search rules) (λ c. search rules) (λ c. search rules) (λ c. search rules) (λ c. search rules)
+      gen-operand-lts.spec (gen-code-inner-below t, gen-code-inner.Post) (gen-operand-at t) gen-operand.Post (λ c κs. search rules) (λ c. search rules) (λ c. search rules) (λ c. search rules) (λ c. search rules) (λ c. search rules)
 
   pub gen-jumps-holds : (M : Type 1) → gen-jumps-lts.Closed (gen-branch-below t, gen-branch.Post) (gen-jumps-at t) gen-jumps.Post M
   gen-jumps-holds M =
-      gen-jumps-lts.spec (gen-branch-below t, gen-branch.Post) (gen-jumps-at t) gen-jumps.Post (λ c κs. search rules) (λ c. search rules) (λ c. search rules) (λ c. search rules) (λ c. search rules)
+      gen-jumps-lts.spec (gen-branch-below t, gen-branch.Post) (gen-jumps-at t) gen-jumps.Post (λ c κs. search rules) (λ c. search rules) (λ c. search rules) (λ c. search rules) (λ c. search rules) (λ c. search rules)

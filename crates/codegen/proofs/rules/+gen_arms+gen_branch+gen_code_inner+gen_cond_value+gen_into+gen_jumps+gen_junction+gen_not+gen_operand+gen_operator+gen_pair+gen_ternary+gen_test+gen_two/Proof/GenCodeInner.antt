@@ -17,40 +17,40 @@ module _ (t : ℕ) where
 
   gen-value-requires : lts.Need-gen-value-requires cl (gen-code-inner-at t) gen-code-inner.Post
   gen-value-requires c κs =
-      let c1 = c .before .before in
+      let c1 = c .before .before .before in
       let c2 = c1 .before in
-      let c3 = c2 .before .before .before .before .before in
+      let c3 = c2 .before .before .before .before .before .before in
       (leaf-ready (c3 .pre .1) (under (c2 .kind-at .ensures) (c1 .if1 .taken)), c3 .pre .1 .fit)
 
   returns : lts.Need-returns cl (gen-code-inner-at t) gen-code-inner.Post
   returns c =
-      let c1 = c .before .before .before .before in
-      let c2 = c1 .before .before .before in
+      let c1 = c .before .before .before .before .before .before in
+      let c2 = c1 .before .before .before .before in
       let c3 = c2 .before in
-      let c4 = c3 .before .before .before .before .before in
+      let c4 = c3 .before .before .before .before .before .before in
       leaf-value (c4 .pre .1) _ _ (under (c3 .kind-at .ensures) (c2 .if1 .taken)) (c1 .gen-value .ensures)
 
   gen-operator-requires : lts.Need-gen-operator-requires cl (gen-code-inner-at t) gen-code-inner.Post
   gen-operator-requires c κs =
-      let c1 = c .before .before .before in
+      let c1 = c .before .before .before .before in
       let c2 = c1 .before in
       let c3 = c2 .before in
-      let c4 = c3 .before .before .before .before .before in
+      let c4 = c3 .before .before .before .before .before .before in
       (value-over-op (c4 .args .nodes .now) (c4 .args .i) t (c4 .pre .0), (c4 .pre .1, (over (c3 .kind-at .ensures) (c2 .if1 .left), under (c3 .kind-at .ensures) (c1 .if2 .taken))))
 
   gen-cond-value-requires : lts.Need-gen-cond-value-requires cl (gen-code-inner-at t) gen-code-inner.Post
   gen-cond-value-requires c κs =
-      let c1 = c .before .before .before in
+      let c1 = c .before .before .before .before in
       let c2 = c1 .before in
       let c3 = c2 .before .before in
-      let c4 = c3 .before .before .before .before .before in
+      let c4 = c3 .before .before .before .before .before .before in
       let low = over (c3 .kind-at .ensures) (c2 .if2 .left) in let high = under (c3 .kind-at .ensures) (c1 .if3 .taken) in (value-over-cond (c4 .args .nodes .now) (c4 .args .i) t (c4 .pre .0) low high, (c4 .pre .1, (low, high)))
 
   gen-ternary-requires : lts.Need-gen-ternary-requires cl (gen-code-inner-at t) gen-code-inner.Post
   gen-ternary-requires c κs =
-      let c1 = c .before .before .before in
+      let c1 = c .before .before .before .before in
       let c2 = c1 .before .before .before in
-      let c3 = c2 .before .before .before .before .before in
+      let c3 = c2 .before .before .before .before .before .before in
       (value-over-op (c3 .args .nodes .now) (c3 .args .i) t (c3 .pre .0), (c3 .pre .1, over (c2 .kind-at .ensures) (c1 .if3 .left)))
 
   pub gen-code-inner-holds : (M : Type 1) → lts.Closed cl (gen-code-inner-at t) gen-code-inner.Post M
@@ -60,8 +60,10 @@ module _ (t : ℕ) where
       gen-value-requires
       (λ c. search rules)
       (λ c. search rules)
+      (λ c. search rules)
       returns
       gen-operator-requires
+      (λ c. search rules)
       (λ c. search rules)
       (λ c. search rules)
       (λ c. search rules)
@@ -71,7 +73,9 @@ module _ (t : ℕ) where
       (λ c. search rules)
       (λ c. search rules)
       (λ c. search rules)
+      (λ c. search rules)
       gen-ternary-requires
+      (λ c. search rules)
       (λ c. search rules)
       (λ c. search rules)
       (λ c. search rules)

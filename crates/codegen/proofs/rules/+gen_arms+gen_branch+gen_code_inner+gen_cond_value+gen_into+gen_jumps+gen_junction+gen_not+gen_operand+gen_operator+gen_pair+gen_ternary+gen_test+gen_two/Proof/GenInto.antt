@@ -20,4 +20,5 @@ module _ (t : ℕ) where
       (λ c. search rules)
       (λ c. search rules)
       (λ c. search rules)
+      (λ c. search rules)
       (λ c. search (into-value, rules))

@@ -15,7 +15,7 @@ module _ (t : ℕ) where
 
   child-1-requires : lts.Need-child-1-requires cl (gen-not-at t) gen-not.Post
   child-1-requires c κs =
-      let c1 = c .before .before .before .before .before .before .before in
+      let c1 = c .before .before .before .before .before .before .before .before .before in
       inner (c1 .pre .1 .0) {m = 6} (omega (arith, c1 .pre .1 .1)) (omega arith)
 
   pub gen-not-holds : (M : Type 1) → lts.Closed cl (gen-not-at t) gen-not.Post M
@@ -23,6 +23,7 @@ module _ (t : ℕ) where
       lts.spec cl (gen-not-at t) gen-not.Post
       child-1-requires
       (λ c κs. search rules)
+      (λ c. search rules)
       (λ c. search rules)
       (λ c. search rules)
       (λ c. search rules)

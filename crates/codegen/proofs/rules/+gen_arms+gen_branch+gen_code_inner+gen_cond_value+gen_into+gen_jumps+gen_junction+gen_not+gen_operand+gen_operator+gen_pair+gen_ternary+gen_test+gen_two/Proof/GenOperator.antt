@@ -18,26 +18,26 @@ module _ (t : ℕ) where
 
   gen-two-requires : lts.Need-gen-two-requires cl (gen-operator-at t) gen-operator.Post
   gen-two-requires c κs =
-      let c1 = c .before .before .before in
+      let c1 = c .before .before .before .before in
       let c2 = c1 .before .before in
-      let c3 = c2 .before .before .before .before .before in
+      let c3 = c2 .before .before .before .before .before .before in
       let g = sym (c2 .fold-of .ensures) ∙ c1 .enum-told .given .1 in (op-over-two (c3 .args .nodes .now) (c3 .args .i) t (c3 .pre .0), (c3 .pre .1 .0, (over-unary (c3 .pre .1 .0) (c3 .pre .1 .1 .0) g, c3 .pre .1 .1 .1, g)))
 
   operand-of-requires : lts.Need-operand-of-requires cl (gen-operator-at t) gen-operator.Post
   operand-of-requires c κs =
       let c1 = c .before in
       let c2 = c1 .before .before in
-      let c3 = c2 .before .before .before .before .before in
+      let c3 = c2 .before .before .before .before .before .before in
       (operator (c3 .pre .1 .0) (c3 .pre .1 .1 .0) (c3 .pre .1 .1 .1), sym (c2 .fold-of .ensures) ∙ c1 .f .given .1)
 
   returns-2 : lts.Need-returns-2 cl (gen-operator-at t) gen-operator.Post
   returns-2 c =
       let c1 = c .before .before in
-      let c2 = c1 .before .before .before .before .before .before .before .before in
-      let c3 = c2 .before .before .before .before in
+      let c2 = c1 .before .before .before .before .before .before .before .before .before .before in
+      let c3 = c2 .before .before .before .before .before in
       let c4 = c3 .before .before in
       let c5 = c4 .before .before in
-      let c6 = c5 .before .before .before .before .before in
+      let c6 = c5 .before .before .before .before .before .before in
       fold-value (c6 .pre .1 .0) _ _ (c3 .operand-of .ensures) (sym (c5 .fold-of .ensures) ∙ c4 .f .given .1) (c2 .gen-operand .ensures) (c1 .put-tail .ensures)
 
   pub gen-operator-holds : (M : Type 1) → lts.Closed cl (gen-operator-at t) gen-operator.Post M
@@ -51,9 +51,11 @@ module _ (t : ℕ) where
       (λ c. search rules)
       (λ c. search rules)
       (λ c. search rules)
+      (λ c. search rules)
       operand-of-requires
       (λ c κs. search rules)
       (λ c κs. search rules)
+      (λ c. search rules)
       (λ c. search rules)
       (λ c. search rules)
       (λ c. search rules)

@@ -16,26 +16,26 @@ module _ (t : ℕ) where
 
   gen-pair-requires : lts.Need-gen-pair-requires cl (gen-test-at t) gen-test.Post
   gen-pair-requires c κs =
-      let c1 = c .before .before .before in
+      let c1 = c .before .before .before .before in
       let c2 = c1 .before .before in
-      let c3 = c2 .before .before .before .before .before in
+      let c3 = c2 .before .before .before .before .before .before in
       let p = picked-both _ _ _ (c1 .enum-told .given .1) (c2 .test-of .ensures) in let k = pair-kind (c3 .pre .1 .0) _ p in (test-over-pair (c3 .args .nodes .now) (c3 .args .i) t (c3 .pre .0), (c3 .pre .1 .0, (k .0, k .1, p)))
 
   gen-operand-requires : lts.Need-gen-operand-requires cl (gen-test-at t) gen-test.Post
   gen-operand-requires c κs =
-      let c1 = c .before .before .before .before in
+      let c1 = c .before .before .before .before .before in
       let c2 = c1 .before .before in
-      let c3 = c2 .before .before .before .before .before in
-      let p = picked-one _ _ _ (c1 .t .given .1) (c2 .test-of .ensures) .1 in (tested-operand _ _ (c3 .pre .0) p (c3 .pre .1 .1 .1) (c3 .pre .1 .0), ready-tested (c3 .pre .1 .0) p)
+      let c3 = c2 .before .before .before .before .before .before in
+      let p = picked-one _ _ _ (c1 .t .given .1) (c2 .test-of .ensures) .1 in (tested-operand _ _ _ (c3 .pre .0) p (c3 .pre .1 .1 .1) (c3 .pre .1 .0), ready-tested (c3 .pre .1 .0) p)
 
   returns-2 : lts.Need-returns-2 cl (gen-test-at t) gen-test.Post
   returns-2 c =
       let c1 = c .before .before .before .before in
-      let c2 = c1 .before .before .before .before .before .before .before .before .before in
-      let c3 = c2 .before .before .before .before .before in
+      let c2 = c1 .before .before .before .before .before .before .before .before .before .before .before in
+      let c3 = c2 .before .before .before .before .before .before in
       let c4 = c3 .before .before in
-      let c5 = c4 .before .before .before .before .before in
-      one-branch (c5 .pre .1 .0) _ _ (c5 .pre .1 .1) _ (picked-one _ _ _ (c3 .t .given .1) (c4 .test-of .ensures) .0) (c2 .gen-operand .ensures) (c2 .gen-operand .kept .1 .1 .1 .0) (c1 .jump-one .ensures)
+      let c5 = c4 .before .before .before .before .before .before in
+      one-branch (c5 .pre .1 .0) _ _ (c5 .pre .1 .1) _ (picked-one _ _ _ (c3 .t .given .1) (c4 .test-of .ensures) .0) (c2 .gen-operand .ensures) (c2 .gen-operand .kept .1 .1 .1 .1 .0) (c1 .jump-one .ensures)
 
   pub gen-test-holds : (M : Type 1) → lts.Closed cl (gen-test-at t) gen-test.Post M
   gen-test-holds M =
@@ -48,8 +48,10 @@ module _ (t : ℕ) where
       (λ c. search rules)
       (λ c. search rules)
       (λ c. search rules)
+      (λ c. search rules)
       gen-operand-requires
       (λ c κs. search rules)
+      (λ c. search rules)
       (λ c. search rules)
       (λ c. search rules)
       (λ c. search rules)

@@ -137,6 +137,41 @@ fn limits(out: &mut Out) {
     for _ in 0..2 { out.roomy(&t.op(NOT).job(3)) }
 }
 
+/// Equal constants share a slot (02, W2): slots for each distinct constant,
+/// one less, one more, none.
+fn shared(out: &mut Out) {
+    let b = Builder::default;
+    let big = 1 << 37;
+    let mut forty = b();
+    forty.float(0.1);
+    for _ in 0..40 { forty.float(0.1).op(ADD); }
+    let mut right = b();
+    for _ in 0..40 { right.float(0.1); }
+    for _ in 1..40 { right.op(ADD); }
+    let jobs = [
+        b().float(0.1).float(0.1).op(ADD).job(1),
+        b().int(big).int(big).float(0.1).op(ADD).op(ADD).job(1),
+        b().float(0.0).float(-0.0).op(ADD).job(1),
+        b().int(0x3FF0 << 48).float(1.0).op(ADD).job(1),
+        b().int(big - 1).int(big - 1).op(ADD).job(1),
+        b().int(-big - 1).int(-big - 1).op(SUB).job(1),
+        b().float(0.1).float(0.1).op(ADD).job(65_534),
+        b().float(0.1).float(0.1).op(ADD).job(65_535),
+        b().reg(0).float(0.1).float(0.1).op(TERNARY).job(1),
+        // the second constant is met again, then the first
+        b().float(0.1).float(0.2).op(ADD).float(0.2).op(ADD).float(0.1).op(ADD).job(1),
+        b().float(0.1).float(0.2).op(LT).float(0.2).float(0.1).op(LT).op(AND).job(1),
+        b().int(1 << 61).int(1 << 61).op(BIT_AND).int(1 << 61).op(BIT_AND).job(1),
+        forty.job(1),
+        right.job(1),
+    ];
+    for job in &jobs {
+        let Some((words, slots)) = out.takes(job) else { out.lend(job, 3, 2); continue };
+        for lent in [slots, slots.saturating_sub(1), slots + 1, 0] { out.lend(job, words, lent) }
+        for lent in 0..words.min(4) { out.lend(job, lent, slots) }
+    }
+}
+
 pub fn make() -> Pair {
     let mut r = Rng(5);
     let mut out = Out { pair: Pair::default(), h: house::Oracle::new() };
@@ -144,6 +179,7 @@ pub fn make() -> Pair {
     folds(&mut out);
     tests(&mut out);
     limits(&mut out);
+    shared(&mut out);
     // random tables: room to spare, exactly full, one short of words or of slots
     for i in 0..400 {
         let mut job = good(&mut r, 16);
