@@ -9,10 +9,11 @@
 # JOBS=n in the environment: the jobs of the stream, a multiple of 10.
 set -euo pipefail
 cd "$(dirname "$0")/.."
-jobs=${JOBS:-20000}
-all="cortex-m0plus cortex-m4 cortex-m7 rv32imac aarch64 wasm32"
+jobs=${JOBS:-10000}
 table=
 [ "${1:-}" != table ] || { table=1; shift; }
+all=$({ tools/port.sh || true; } | sed -n 's/^  \([a-z0-9-]*\): .*/\1/p' | paste -s -d ' ')
+# shellcheck disable=SC2086
 [ $# -gt 0 ] || set -- $all
 for t in "$@"; do case " $all " in *" $t "*) ;; *) echo "port: no target '$t': there are $all"; exit 2 ;; esac; done
 [ "$(uname -m)" = x86_64 ] || { echo "port: the answers are held to the x86-64 archive's, on x86-64 alone"; exit 0; }
@@ -39,27 +40,29 @@ missing=$(for t in "$@"; do lacks "$t"; done | sort -u | tr '\n' ' ')
 if [ -n "$missing" ] && [ "$(id -u)" = 0 ] && command -v apt-get >/dev/null; then
     say "installing $missing"
     # shellcheck disable=SC2086
-    { timeout 600 apt-get install -y --no-install-recommends $missing || { timeout 120 apt-get update && timeout 600 apt-get install -y --no-install-recommends $missing; }; } \
-        >"$work/apt" 2>&1 || say "not installed: $missing"
+    get() { timeout 600 apt-get install -y --no-install-recommends $missing; }
+    { get || { timeout 120 apt-get update && get; }; } >"$work/apt" 2>&1 || say "not installed: $missing"
 fi
 
 tools/port.sh "$@" >"$work/log" || { cat "$work/log"; exit 1; }
 kit=${RATTLE_HOME:-$(dirname "$(dirname "$(rt doc)")")}/on/x86_64/toolchain/bin
+[ -x "$kit/ld.lld" ] || fail "the kit has no $kit/ld.lld: is it the one that README.md names?"
+for c in "${CC:-cc}" readelf nm; do command -v "$c" >/dev/null || fail "no '$c' here: a C compiler and binutils are wanted"; done
 
 # ---- building and running a program of tests/port
-# The stream with a JOBS of its own; freestanding, since a chip has no C library. The kit's clang has no headers: the freestanding ones of the machine's compiler.
+# Freestanding: a chip has no C library. The kit's clang has no headers; stdint.h is that of the machine's compiler.
 flags="-std=c11 -Wall -Wextra -Werror -O2 -ffreestanding -DJOBS=$jobs"
 headers="-isystem $(${CC:-cc} -print-file-name=include)"
-plain="-Wl,--no-warn-rwx-segments,--no-warn-execstack" # one segment for code and data, and libgcc's assembler files, which do not mark their stack
-quiet="-nographic -monitor none -serial none -nic none -semihosting"
+quiet="-nographic -monitor none -serial none -semihosting"
 
 # Firmware as people compile it: that for the Cortex-M7 passes floats in registers, the others do not.
 cross() { # TARGET COMPILER BOARD FLAGS..
     local t=$1 compiler=$2 board=$3
     shift 3
+    # its linker's warnings, of libgcc's files and of one segment for code and data, are shown only where it fails
     # shellcheck disable=SC2086
-    "$compiler" $flags "$@" -nostdlib "-Itarget/port/$t" "tests/port/$program.c" "tests/port/$board.c" tests/port/memory.c "target/port/$t/libvosemaqe.a" -lgcc $plain \
-        -o "$work/$program-$t"
+    "$compiler" $flags "$@" -nostdlib "-Itarget/port/$t" "tests/port/$program.c" "tests/port/$board.c" tests/port/memory.c "target/port/$t/libvosemaqe.a" -lgcc \
+        -o "$work/$program-$t" 2>"$work/log" || { cat "$work/log"; fail "$t: $program does not link"; }
 }
 by_clang() { # TARGET FLAGS..: objects by the kit's clang
     local t=$1 c
@@ -94,7 +97,7 @@ emulate() { # TARGET PROGRAM
     cortex-m4) qemu-system-arm -M mps2-an386 $quiet -kernel "$2" ;;
     cortex-m7) qemu-system-arm -M mps2-an500 $quiet -kernel "$2" ;;
     rv32imac) qemu-riscv32 -cpu sifive-e31 "$2" ;;
-    aarch64) qemu-system-aarch64 -M virt -cpu cortex-a53 $quiet -kernel "$2" ;;
+    aarch64) qemu-system-aarch64 -M virt -cpu cortex-a53 -nic none $quiet -kernel "$2" ;;
     wasm32) node tests/port/wasm.mjs "$2" ;;
     esac
 }
@@ -110,25 +113,26 @@ sizes() { # TARGET: bytes of code, of constants, of writable data
     if [ "$1" = wasm32 ]; then node tests/port/wasm.mjs "$work/object" sizes && return; fi
     while read -r flag size; do
         case $flag in *W*) data=$((data + 16#$size)) ;; *X*) code=$((code + 16#$size)) ;; *) constants=$((constants + 16#$size)) ;; esac
-    done < <(readelf -SW "$work/object" | awk '$(NF - 3) ~ /A/ { print $(NF - 3), $(NF - 5) }')
+    done < <(readelf -SW "$work/object" | awk 'NF > 6 && $(NF - 3) ~ /A/ { print $(NF - 3), $(NF - 5) }')
     echo "$code $constants $data"
 }
 asks() { # TARGET: what the archive wants to be linked with
     object "$1"
     if [ "$1" = wasm32 ]; then node tests/port/wasm.mjs "$work/object" asks; else nm -u "$work/object" | sed -n 's/^ *U //p' | sort | paste -s -d ' '; fi
 }
+grouped() { sed -E ':a; s/([0-9])([0-9]{3})(,|$)/\1,\2\3/; ta' <<<"$1"; } # NUMBER
 # a row of docs/PORTING.md's table
 port_row() { # TARGET
     local code constants data wanted
     read -r code constants data < <(sizes "$1")
-    wanted=$(asks "$1" | sed -E 's/([^ ]+)/`\1`/g')
-    echo "| $1 | $code | $constants | $data | ${wanted:-nothing} |"
+    wanted=$(asks "$1")
+    echo "| $1 | $(grouped "$code") | $(grouped "$constants") | $data | ${wanted:+\`}${wanted:-nothing}${wanted:+\`} |"
 }
 hold_archive() { # TARGET
     local code constants data told
     read -r code constants data < <(sizes "$1")
     [ "$code" -gt 0 ] && [ "$data" = 0 ] || fail "$1: the archive has no code, or has state: $code bytes of code, $data of writable data"
-    told=$(sed -n "s/^| $1 | .* | \(.*\) |\$/\1/p" docs/PORTING.md)
+    told=$(sed -n "s/^| $1 | [0-9].* | \(.*\) |\$/\1/p" docs/PORTING.md)
     [ "$(port_row "$1" | sed 's/.* | \(.*\) |$/\1/')" = "$told" ] || fail "$1: the archive asks for '$(asks "$1")', docs/PORTING.md says '$told'"
 }
 # docs/STACK.md's reserve: BYTES [BYTES-A-LEVEL]
@@ -166,7 +170,10 @@ one() { # TARGET
         build "$1"
         run "$1" "$work/$program-$1" "$work/$program-$1.out"
     done
-    cmp -s "$work/native.out" "$work/stream-$1.out" || { diff "$work/native.out" "$work/stream-$1.out" | head -n 4; fail "$1: the stream's answers are not the x86-64 archive's"; }
+    cmp -s "$work/native.out" "$work/stream-$1.out" || {
+        { diff "$work/native.out" "$work/stream-$1.out" || true; } | head -n 4
+        fail "$1: the stream's answers are not the x86-64 archive's"
+    }
     if [ -z "$table" ]; then
         hold_archive "$1"
         [ "$1" = wasm32 ] || hold_stack "$1" "$work/stack-$1.out"

@@ -22,7 +22,7 @@ flags_of() { # TARGET
     *) return 1 ;;
     esac
 }
-level=-O2
+level=${PORT_LEVEL:--O2} # another level is for measuring it: the stack is the inliner's (docs/DECISIONS.md)
 
 if [ $# -eq 0 ]; then
     echo "usage: tools/port.sh TARGET.. | all, a target with the compiler's flags being one of"

@@ -271,7 +271,7 @@ static void table_job(void) {
         room = exact;
         compile(room, 1); /* full, but perhaps for the jumps */
         uint32_t which = below(3);
-        if (which == 0) room.words--;
+        if (which == 0 && room.words) room.words--; /* a Ref alone has no word */
         if (which == 1 && room.kinds) room.kinds--;
         if (which == 2 && room.payloads) room.payloads--;
         compile(room, 0);
