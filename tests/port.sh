@@ -132,7 +132,7 @@ hold_archive() { # TARGET
     local code constants data told
     read -r code constants data < <(sizes "$1")
     [ "$code" -gt 0 ] && [ "$data" = 0 ] || fail "$1: the archive has no code, or has state: $code bytes of code, $data of writable data"
-    told=$(sed -n "s/^| $1 | [0-9].* | \(.*\) |\$/\1/p" docs/PORTING.md)
+    told=$(sed -n "s/^| $1 | [0-9,]* | [0-9,]* | [0-9]* | \(.*\) |\$/\1/p" docs/PORTING.md)
     [ "$(port_row "$1" | sed 's/.* | \(.*\) |$/\1/')" = "$told" ] || fail "$1: the archive asks for '$(asks "$1")', docs/PORTING.md says '$told'"
 }
 # docs/STACK.md's reserve: BYTES [BYTES-A-LEVEL]
