@@ -57,12 +57,12 @@ quiet="-nographic -monitor none -serial none -semihosting"
 
 # Firmware as people compile it: that for the Cortex-M7 passes floats in registers, the others do not.
 cross() { # TARGET COMPILER BOARD FLAGS..
-    local t=$1 compiler=$2 board=$3
+    local t=$1 compiler=$2 sources="tests/port/$program.c tests/port/$3.c tests/port/memory.c"
     shift 3
     # its linker's warnings, of libgcc's files and of one segment for code and data, are shown only where it fails
     # shellcheck disable=SC2086
-    "$compiler" $flags "$@" -nostdlib "-Itarget/port/$t" "tests/port/$program.c" "tests/port/$board.c" tests/port/memory.c "target/port/$t/libvosemaqe.a" -lgcc \
-        -o "$work/$program-$t" 2>"$work/log" || { cat "$work/log"; fail "$t: $program does not link"; }
+    "$compiler" $flags "$@" -nostdlib "-Itarget/port/$t" $sources "target/port/$t/libvosemaqe.a" -lgcc -o "$work/$program-$t" 2>"$work/log" \
+        || { cat "$work/log"; fail "$t: $program does not link"; }
 }
 by_clang() { # TARGET FLAGS..: objects by the kit's clang
     local t=$1 c
@@ -80,7 +80,8 @@ build() { # TARGET, with $program
     aarch64)
         board=aarch64
         by_clang "$1" --target=aarch64-none-elf -mstrict-align
-        "$kit/ld.lld" -T tests/port/aarch64.ld "$work/$program-$1.o" "$work/aarch64-$1.o" "$work/memory-$1.o" "target/port/$1/libvosemaqe.a" -o "$work/$program-$1"
+        "$kit/ld.lld" -T tests/port/aarch64.ld "$work/$program-$1.o" "$work/aarch64-$1.o" "$work/memory-$1.o" "target/port/$1/libvosemaqe.a" \
+            -o "$work/$program-$1"
         ;;
     wasm32)
         by_clang "$1" --target=wasm32-unknown-unknown
@@ -90,19 +91,19 @@ build() { # TARGET, with $program
     esac
 }
 # The Cortex-M0 of the emulator stands for the M0+: the same instructions. Its board has 16 KiB of RAM, so it is told otherwise.
-emulate() { # TARGET PROGRAM
-    # shellcheck disable=SC2086
+emulator_of() { # TARGET: the command that runs a program
     case $1 in
-    cortex-m0plus) qemu-system-arm -M microbit -global nrf51-soc.sram-size=4194304 -global nrf51-soc.flash-size=4194304 $quiet -kernel "$2" ;;
-    cortex-m4) qemu-system-arm -M mps2-an386 $quiet -kernel "$2" ;;
-    cortex-m7) qemu-system-arm -M mps2-an500 $quiet -kernel "$2" ;;
-    rv32imac) qemu-riscv32 -cpu sifive-e31 "$2" ;;
-    aarch64) qemu-system-aarch64 -M virt -cpu cortex-a53 -nic none $quiet -kernel "$2" ;;
-    wasm32) node tests/port/wasm.mjs "$2" ;;
+    cortex-m0plus) echo "qemu-system-arm -M microbit -global nrf51-soc.sram-size=4194304 -global nrf51-soc.flash-size=4194304 $quiet -kernel" ;;
+    cortex-m4) echo "qemu-system-arm -M mps2-an386 $quiet -kernel" ;;
+    cortex-m7) echo "qemu-system-arm -M mps2-an500 $quiet -kernel" ;;
+    rv32imac) echo "qemu-riscv32 -cpu sifive-e31" ;;
+    aarch64) echo "qemu-system-aarch64 -M virt -cpu cortex-a53 -nic none $quiet -kernel" ;;
+    wasm32) echo "node tests/port/wasm.mjs" ;;
     esac
 }
 run() { # TARGET PROGRAM OUT: semihosting writes to standard error
-    timeout 600 bash -c "$(declare -f emulate); quiet='$quiet'; emulate $1 $2" >"$3" 2>&1 || { tail -n 5 "$3"; fail "$1: ${2##*/} failed"; }
+    # shellcheck disable=SC2046
+    timeout 600 $(emulator_of "$1") "$2" >"$3" 2>&1 || { tail -n 5 "$3"; fail "$1: ${2##*/} failed"; }
 }
 
 # ---- what is held, target by target
@@ -153,16 +154,17 @@ hold_stack() { # TARGET OUT
 # ---- the reference: the stream on this machine, with the archive that rt makes. It has to call every function and to meet every number.
 native="${CC:-cc} -std=c11 -Wall -Wextra -Werror -O2 -DJOBS=$jobs -Iinclude"
 $native -c tests/port/stream.c -o "$work/stream.o"
-[ "$(nm -u "$work/stream.o" | sed -n 's/^ *U \(vosemaqe_.*\)/\1/p' | sort)" = "$(sed -n 's/^[a-z0-9_]* \(vosemaqe_[a-z_]*\)(.*/\1/p' include/vosemaqe.h | sort)" ] \
-    || fail "the stream does not call every function of the header"
+[ "$(nm -u "$work/stream.o" | sed -n 's/^ *U \(vosemaqe_.*\)/\1/p' | sort)" = \
+    "$(sed -n 's/^[a-z0-9_]* \(vosemaqe_[a-z_]*\)(.*/\1/p' include/vosemaqe.h | sort)" ] || fail "the stream does not call every function of the header"
 $native "$work/stream.o" tests/port/hosted.c target/port/x86-64/libvosemaqe.a -o "$work/native"
 "$work/native" >"$work/native.out"
 numbers=$(sed -n '/^enum vosemaqe_number/,/^}/s/^ *VOSEMAQE_[A-Z_]* = \([0-9]*\).*/\1/p' include/vosemaqe.h | paste -s -d ' ')
 [ "$(sed -n 's/^numbers met: //p' "$work/native.out")" = "$numbers" ] || fail "the stream does not meet every number of the header: $numbers"
 
 # ---- the targets
-ran= unrun=
-: >"$work/stack-rows" >"$work/port-rows"
+ran='' unrun=''
+: >"$work/stack-rows"
+: >"$work/port-rows"
 one() { # TARGET
     local program
     for program in stream stack; do
@@ -185,6 +187,7 @@ one() { # TARGET
 for t in "$@"; do
     if [ -n "$(lacks "$t")" ]; then
         unrun="$unrun $t"
+        [ -n "$table" ] || [ "$t" = wasm32 ] || hold_archive "$t"
         echo "port: $t: built and NOT RUN: it wants Debian's $(lacks "$t" | paste -s -d ' ')"
     else
         one "$t"
@@ -205,11 +208,12 @@ firmware() { # SED-SCRIPT OUT
 }
 case " $ran " in *" cortex-m4 "*)
     firmware '' "$work/firmware" || { cat "$work/firmware"; fail "the firmware of docs/PORTING.md does not run"; }
-    grep -qF "\`$(grep '^firmware: ' "$work/firmware")\`" docs/PORTING.md || { cat "$work/firmware"; fail "the firmware does not write what docs/PORTING.md says"; }
+    written=$(grep '^firmware: ' "$work/firmware") || written=nothing
+    grep -qF "\`$written\`" docs/PORTING.md || fail "the firmware writes '$written', docs/PORTING.md says otherwise"
     if firmware 's/-lgcc/& -Wl,--defsym=stack_bytes=512/' "$work/firmware-small" || ! grep -q '^FAULT' "$work/firmware-small"; then
         fail "the firmware with 512 bytes of stack does not stop with a fault"
     fi
-    say "the firmware of docs/PORTING.md writes '$(grep '^firmware: ' "$work/firmware")'; with too little stack it stops"
+    say "the firmware of docs/PORTING.md writes '$written'; with too little stack it stops"
     ;;
 esac
 [ -z "$ran" ] || say "$jobs jobs of the stream as on x86-64, stack within docs/STACK.md:$ran"

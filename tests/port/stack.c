@@ -2,7 +2,8 @@
    lowest byte that changed is looked for after all tables of a depth. So the figure is the most over them, from the stack pointer of whoever calls, the
    arguments that go on the stack included.
    The tables are chains to a depth of each operator, its deeper operand in each place, over several leaves; and of every two, in turn, many of one over one of
-   the other, and the other way round. They are evaluated and run on Bools, Ints, Floats and an Int beside a Float; each opcode is run by itself too. Prints `stack FUNCTION DEPTH BYTES` and, after a #, the chain that took the most. */
+   the other, and the other way round. They are evaluated and run on Bools, Ints, Floats and an Int beside a Float; each opcode is run by itself too.
+   Prints `stack FUNCTION DEPTH BYTES` and, after a #, the chain that took the most. */
 #include "board.h"
 #include "vosemaqe.h"
 
@@ -77,7 +78,7 @@ static void call_run_part(void) {
 static void call_check(void) { number = vosemaqe_check(table, length, 2, 0, 0); }
 static void call_complete(void) { vosemaqe_complete(table, length); }
 static void call_patch(void) { number = vosemaqe_patch(code, words, words / 2, 0); }
-static void call_decode(void) { number = vosemaqe_decode(code[words - 1], cell, cell + 1, cell + 2, cell + 3, cell + 4, cell + 5); }
+static void call_decode(void) { number = vosemaqe_decode(code[words / 2], cell, cell + 1, cell + 2, cell + 3, cell + 4, cell + 5); }
 static void call_encode(void) { number = vosemaqe_encode(code[0] & 255, cell[1], cell[2], cell[3], cell[4], cell[5], cell); }
 static void call_version(void) { number = (uint8_t)vosemaqe_version(); }
 
@@ -102,10 +103,10 @@ static void paint(void) {
     for (uint32_t w = 0; w < STACKS; w++) lowest[w] = top((enum which)w);
 }
 
-/* A call on its stack. Where it went lower than those before it is seen within 2 KiB, which is more than a frame: it names the chain, it gives no figure. */
+/* A call on its stack. Where it went lower than those before it is seen within 1 KiB, which is more than a frame: it names the chain, it gives no figure. */
 static void on(enum which w, void (*call)(void)) {
     on_stack(top(w), call);
-    uint32_t *from = lowest[w] - bottom(w) > 512 ? lowest[w] - 512 : bottom(w);
+    uint32_t *from = lowest[w] - bottom(w) > 256 ? lowest[w] - 256 : bottom(w);
     while (from < lowest[w] && *from == PAINT) from++;
     if (from == lowest[w]) return;
     lowest[w] = from;

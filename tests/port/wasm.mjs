@@ -34,4 +34,7 @@ const section = (id) => sections().filter((s) => s[0] === id).reduce((n, s) => n
 
 if (what === 'run') await run();
 if (what === 'sizes') console.log(section(10), section(11), 0);
-if (what === 'asks') console.log(WebAssembly.Module.imports(new WebAssembly.Module(bytes)).filter((i) => i.kind === 'function').map((i) => i.name).sort().join(' '));
+if (what === 'asks') {
+    const functions = WebAssembly.Module.imports(new WebAssembly.Module(bytes)).filter((i) => i.kind === 'function');
+    console.log(functions.map((i) => i.name).sort().join(' '));
+}
