@@ -1,6 +1,6 @@
 #!/usr/bin/env bash
 # The proved library for another processor: tools/port.sh TARGET.. ('all' for every one; without a word it lists them).
-# Writes target/port/TARGET/libvosemaqe.a and vosemaqe.h; docs/PORTING.md says how a firmware links them.
+# Writes target/port/TARGET/libvosemaqe.a, vosemaqe.h, and the stack frame of each function, frames; docs/PORTING.md says how a firmware links them.
 #
 # `rt staticlib` runs as always, so nothing is compiled that is not proved. It runs over a shadow of the kit, links to every file but clang, whose place has a
 # script that keeps the module which clang is handed; the kit's own clang then compiles that module for the target. What is proved is the module's source; that
@@ -89,9 +89,10 @@ for t in "$@"; do
     # Tag_ABI_VFP_args 3: no float is a parameter or a result here, so that this links with firmware of either float ABI
     case $t in cortex-*) echo 'module asm ".eabi_attribute 28, 3"' >>"$work/$t.ll" ;; esac
     # shellcheck disable=SC2046
-    "$clang" $(flags_of "$t") $level -ffunction-sections -fdata-sections -Wno-override-module -c -x ir "$work/$t.ll" -o "$work/vosemaqe.o"
+    "$clang" $(flags_of "$t") $level -ffunction-sections -fdata-sections -fstack-usage -Wno-override-module -c -x ir "$work/$t.ll" -o "$work/vosemaqe.o"
     rm -f "$out/libvosemaqe.a"
     "$ar" rcsD "$out/libvosemaqe.a" "$work/vosemaqe.o"
     cp include/vosemaqe.h "$out/vosemaqe.h"
+    sed -n 's/^[^:]*:\([^\t]*\)\t\([0-9]*\)\t.*/\2 \1/p' "$work/vosemaqe.su" | sort -k1,1nr -k2 >"$out/frames"
     echo "port: $out/libvosemaqe.a"
 done

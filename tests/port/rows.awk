@@ -1,6 +1,7 @@
 # Rows of docs/STACK.md's last table, from what stack.c prints: awk -v target=NAME -f rows.awk OUT
 # The reserve at depth d is bytes + bytes-a-level * d. A level: what one takes between the two greatest depths, rounded up to 8. The rest: what the worst depth
-# takes beyond that, rounded up to 64 with 64 to spare. Where the two greatest depths take the same, the most of all, rounded up to 128 with 64 to spare.
+# takes beyond that, rounded up to 64 with 256 to spare, since a painted stack shows what was written and not the whole of the last frames. Where the two
+# greatest depths take the same, the most of all, rounded up likewise.
 function up(n, to) { n += to - 1; return n - n % to }
 function grouped(n) { return n < 1000 ? n "" : int(n / 1000) "," substr(1000 + n % 1000, 2) }
 function told(depth) { return depth == 1 || depth == 16 || depth == 64 || depth == limit }
@@ -22,6 +23,6 @@ END {
         for (k = 1; k <= n; k++) if (bytes[f, k] - level * depth[k] > rest) rest = bytes[f, k] - level * depth[k]
         line = "| " target " | `" f "` |"
         for (k = 1; k <= n; k++) if (told(depth[k])) line = line " " grouped(bytes[f, k]) " |"
-        print line " " (level ? grouped(up(rest + 64, 64)) " + " grouped(level) " d" : grouped(up(rest + 64, 128))) " |"
+        print line " " grouped(up(rest + 256, 64)) (level ? " + " grouped(level) " d" : "") " |"
     }
 }
