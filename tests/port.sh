@@ -39,10 +39,13 @@ lacks() { # TARGET: the packages of what is not there
 missing=$(for t in "$@"; do lacks "$t"; done | sort -u | tr '\n' ' ')
 if [ -n "$missing" ] && [ "$(id -u)" = 0 ] && command -v apt-get >/dev/null; then
     say "installing $missing"
-    get() { timeout 600 apt-get install -y --no-install-recommends "$1"; }
     # one by one: a package that cannot be had takes no other with it
-    timeout 120 apt-get update >"$work/apt" 2>&1 || say "apt-get update failed"
-    for p in $missing; do get "$p" >>"$work/apt" 2>&1 || say "not installed: $p"; done
+    get() { timeout 600 apt-get install -y --no-install-recommends "$1" >/dev/null 2>&1; }
+    if timeout 120 apt-get update >/dev/null 2>&1; then
+        for p in $missing; do get "$p" || say "not installed: $p"; done
+    else
+        say "not installed: apt-get update fails"
+    fi
 fi
 
 tools/port.sh "$@" >"$work/log" || { cat "$work/log"; exit 1; }
