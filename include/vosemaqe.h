@@ -1,7 +1,8 @@
 /* vosemaqe.h: expressions over registers, checked, compiled to instruction words, evaluated and run.
  *
  * This header is the manual of libvosemaqe.a (x86-64 Linux; link nothing beside it but a C library, for memset). What each function returns and leaves
- * behind is proved, on every input (docs/CLAIMS.md); bytes of stack are measured (docs/STACK.md); docs/TRUST.md says what is trusted.
+ * behind is proved, on every input (docs/CLAIMS.md); bytes of stack are measured (docs/STACK.md); docs/TRUST.md says what is trusted. On other processors
+ * docs/PORTING.md says what is linked beside it, and docs/STACK.md has their stack.
  *
  *     make install PREFIX=/usr/local                      proves the library, then installs header, archive and pkg-config file
  *     cc prog.c $(pkg-config --cflags --libs vosemaqe)
