@@ -14,9 +14,9 @@
  *   - It reads and writes only what it is lent. It allocates nothing, keeps nothing, has no state, and calls nothing but memset. So any number of
  *     threads may call at once, each with buffers of its own; a buffer that is only read may be shared.
  *   - Every result cell is written: it holds 0 where the number is not 0, but for the steps and the position of a run, which a stopped run has too.
- *   - Its stack is bounded: recursion ends at VOSEMAQE_MAX_DEPTH. Room for every table: 416 KiB in vosemaqe_compile, of which 256 KiB are a jump list that
- *     only tables of more than 4,096 nodes take (160 KiB up to 4,096 nodes, 144 KiB up to 512); 144 KiB in vosemaqe_compile_with, to which a list is lent:
- *     it is the entry for small stacks; 48 KiB in vosemaqe_evaluate; 1 KiB in every other function. A table that is less deep takes less: at most 704 bytes
+ *   - Its stack is bounded: recursion ends at VOSEMAQE_MAX_DEPTH. Room for every table: 448 KiB in vosemaqe_compile, of which 256 KiB are a jump list that
+ *     only tables of more than 4,096 nodes take (208 KiB up to 4,096 nodes, 192 KiB up to 512); 188 KiB in vosemaqe_compile_with, to which a list is lent:
+ *     it is the entry for small stacks; 48 KiB in vosemaqe_evaluate; 1 KiB in every other function. A table that is less deep takes less: at most 920 bytes
  *     a level in a compile, 224 in vosemaqe_evaluate. docs/STACK.md has the figures.
  *
  * WHAT THE CALLER OWES
