@@ -40,8 +40,8 @@ missing=$(for t in "$@"; do lacks "$t"; done | sort -u | tr '\n' ' ')
 if [ -n "$missing" ] && [ "$(id -u)" = 0 ] && command -v apt-get >/dev/null; then
     say "installing $missing"
     # one by one: a package that cannot be had takes no other with it
-    get() { timeout 600 apt-get install -y --no-install-recommends "$1" >/dev/null 2>&1; }
-    if timeout 120 apt-get update >/dev/null 2>&1; then
+    get() { timeout 180 apt-get install -y --no-install-recommends "$1" >/dev/null 2>&1; }
+    if timeout 60 apt-get update >/dev/null 2>&1; then
         for p in $missing; do get "$p" || say "not installed: $p"; done
     else
         say "not installed: apt-get update fails"

@@ -1,7 +1,7 @@
 // What is written: texts with numbers in them, floats as decimals, values.
-mod decimals;
+mod expansion;
 
-pub use crate::decimals::say_float;
+pub use crate::expansion::say_float;
 ghost use Prim.Native.Nat.{_≤_};
 ghost use lib.ListN.{length};
 

@@ -1,8 +1,8 @@
--- `print::decimals::power` meets its contract. The invariant: it lies from 1 to 2^60. Assumes nothing.
+-- `print::expansion::power` meets its contract. The invariant: it lies from 1 to 2^60. Assumes nothing.
 use Prim.Native.Nat.{_<_, _≤_, _-_}
 use borrow.Author.Needs.{needs}
-use Rattle.print.proofs.decimals.power.Statement.{statement}
-use Rattle.print.proofs.decimals.power.Tie as tie
+use Rattle.print.proofs.expansion.power.Statement.{statement}
+use Rattle.print.proofs.expansion.power.Tie as tie
 
 abbrev Inv-loop : tie.InvT-loop
 Inv-loop k p₀ counter₀ p counter = (counter ≤ k) × (0 < p) × (p ≤ 1152921504606846976)

@@ -1,8 +1,8 @@
--- `print::decimals::say_fraction` meets its contract. The invariant: what is left is below the divisor. Assumes nothing.
+-- `print::expansion::say_fraction` meets its contract. The invariant: what is left is below the divisor. Assumes nothing.
 use Prim.Native.Nat.{_<_, _≤_, _-_}
 use borrow.Author.Needs.{needs}
-use Rattle.print.proofs.decimals.say_fraction.Statement.{statement}
-use Rattle.print.proofs.decimals.say_fraction.Tie as tie
+use Rattle.print.proofs.expansion.say_fraction.Statement.{statement}
+use Rattle.print.proofs.expansion.say_fraction.Tie as tie
 
 abbrev Inv-loop : tie.InvT-loop
 Inv-loop rest p k r₀ counter₀ r counter = (counter ≤ k) × (r < p)

@@ -1,8 +1,8 @@
--- `print::decimals::doubled` meets its contract: it ends, and what is doubled fits. Assumes nothing.
+-- `print::expansion::doubled` meets its contract: it ends, and what is doubled fits. Assumes nothing.
 use Prim.Native.Nat.{_≤_, _-_}
 use borrow.Author.Needs.{needs}
-use Rattle.print.proofs.decimals.doubled.Statement.{statement}
-use Rattle.print.proofs.decimals.doubled.Tie as tie
+use Rattle.print.proofs.expansion.doubled.Statement.{statement}
+use Rattle.print.proofs.expansion.doubled.Tie as tie
 
 abbrev Inv-loop : tie.InvT-loop
 Inv-loop m k n₀ counter₀ n counter = counter ≤ k
