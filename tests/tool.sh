@@ -64,18 +64,22 @@ check "through a link to a link, elsewhere" 0 "tree:  int 5" sh -c "cd '$room' &
 # ---- what is refused, and what stops
 check "a refusal" 1 "refused with 4" sh -c "printf 'ref 0\n' | $tool"
 check "a fault" 1 "fault 22: Mod by zero" sh -c "printf 'int 1\nint 0\nmod\n' | $tool"
-check "a refusal names its file and line" 1 "$room/ref:2: node 1: register 7 is not below the base, 1" sh -c "printf 'ref 0\nref 7\nadd\nlocal nil\n' >'$room/ref'; $tool '$room/ref'"
+check "a refusal names its file and line" 1 "$room/ref:2: node 1: register 7 is not below the base, 1" \
+    sh -c "printf 'ref 0\nref 7\nadd\nlocal nil\n' >'$room/ref'; $tool '$room/ref'"
 
 check "the node at fault stands after literals that are right" 1 "-:6: node 5: register 3 is not below the base, 1" \
     sh -c "printf 'ref 0\nfloat -0.5\nadd\nint -7\nmul\nref 3\nadd\nlocal int 1\n' | $tool"
 
 # ---- the layout
-check "a parameter and a local" 0 "nodes 3, parameters 1, locals 1, no destination" sh -c "printf 'params 1\nref 0\nref 1\nadd\nlocal int 1\nlocal int 2\n' | $tool"
+check "a parameter and a local" 0 "nodes 3, parameters 1, locals 1, no destination" \
+    sh -c "printf 'params 1\nref 0\nref 1\nadd\nlocal int 1\nlocal int 2\n' | $tool"
 check "fewer values than parameters" 1 "nodes 1, parameters 3, locals 0, no destination" sh -c "printf 'params 3\nref 0\nlocal int 1\nlocal int 2\n' | $tool"
-check "fewer values than parameters, not run" 1 "words: not run: 2 of 3 registers have a value" sh -c "printf 'params 3\nref 0\nlocal int 1\nlocal int 2\n' | $tool"
+check "fewer values than parameters, not run" 1 "words: not run: 2 of 3 registers have a value" \
+    sh -c "printf 'params 3\nref 0\nlocal int 1\nlocal int 2\n' | $tool"
 check "a destination that is not there" 1 "-:2: destination r5 is not below the base, 1" sh -c "printf 'ref 0\ndest 5\nlocal int 1\n' | $tool"
 check "a sum that 64 bits do not hold" 1 "refused with 5" sh -c "printf 'params 18446744073709551615\nlocals 1\nnil\n' | $tool"
-check "a destination among the parameters" 0 "words: int 3 in r0 after 1 step" sh -c "printf 'params 2\nref 0\nref 1\nadd\ndest 0\nlocal int 1\nlocal int 2\n' | $tool"
+check "a destination among the parameters" 0 "words: int 3 in r0 after 1 step" \
+    sh -c "printf 'params 2\nref 0\nref 1\nadd\ndest 0\nlocal int 1\nlocal int 2\n' | $tool"
 
 # ---- limits
 lines() { # TEXT COUNT: the text so many times
@@ -90,7 +94,8 @@ check "one more, and where" 1 "$room/deeper:$((depth + 1)): node $depth: its dep
 awk 'BEGIN { for (i = 1; i <= 2048; i++) { print "true"; for (j = i; j % 2 == 0; j /= 2) print "or" } print "not" }' >"$room/wide"
 check "as many nodes as are shown" 0 "words: false in r1 after 4 steps" $tool "$room/wide"
 echo not >>"$room/wide"
-check "more nodes than are shown" 2 "$room/wide:4097: 'not': more than 4096 nodes: this tool shows no larger expression (the library takes up to 65536)" $tool "$room/wide"
+check "more nodes than are shown" 2 "$room/wide:4097: 'not': more than 4096 nodes: this tool shows no larger expression (the library takes up to 65536)" \
+    $tool "$room/wide"
 # a balanced tree of 511 Lt over Refs: 2044 words, with positions of one to four digits
 balanced() { # LEVELS
     if [ "$1" -eq 0 ]; then echo "ref 0"; else balanced $(($1 - 1)) && balanced $(($1 - 1)) && echo lt; fi
@@ -103,7 +108,8 @@ check "1101 digits after the point" 2 "more than 1100 digits after the point" sh
 
 # ---- what cannot be read
 check "a text that cannot be read" 2 "-:1: 'lte': no kind of node" sh -c "printf 'lte\n' | $tool"
-check "a decimal that no float is equal to" 2 "0x3fe6666666666666 (0.6999999999999999555910790149937383830547332763671875) or float 0x3fe6666666666667" sh -c "printf 'float 0.7\n' | $tool"
+check "a decimal that no float is equal to" 2 "0x3fe6666666666666 (0.6999999999999999555910790149937383830547332763671875) or float 0x3fe6666666666667" \
+    sh -c "printf 'float 0.7\n' | $tool"
 check "unreadable beside a refusal" 2 "1 refused, 0 stopped by a fault, 1 unreadable" sh -c "printf 'lte\n---\nref 0\n' | $tool"
 check "a missing file" 2 "$room/none: No such file or directory" $tool "$room/none"
 check "a missing file among others" 2 "total: 1 with a value, 0 refused, 0 stopped by a fault, 1 unreadable" $tool "$room/none" "$room/sum"

@@ -122,7 +122,10 @@ awk -v index_file="$index" -v claims="$claims" '
             # the crates of a section are those that its first lines name
             if (para ~ /^Crates? /) {
                 t = para
-                while (match(t, /`[a-z0-9_]+(::[a-z0-9_]+)*`/)) { c = substr(t, RSTART + 1, RLENGTH - 2); sub(/::.*/, "", c); section[c] = c in crate; t = substr(t, RSTART + RLENGTH) }
+                while (match(t, /`[a-z0-9_]+(::[a-z0-9_]+)*`/)) {
+                    c = substr(t, RSTART + 1, RLENGTH - 2); sub(/::.*/, "", c); section[c] = c in crate
+                    t = substr(t, RSTART + RLENGTH)
+                }
             }
             look(para)
         }
