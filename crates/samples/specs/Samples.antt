@@ -215,6 +215,10 @@ sum k p l q = node k p 0 1 ++ node l q 1 1 ++ node 13 0 0 2
 abbrev tenth : ℕ
 tenth = 0x3FB999999999999A
 
+-- the greatest Int that takes no slot
+abbrev most : ℕ
+most = 2 ^ 37 - 1
+
 -- such a compile: its loads are of these slots
 abbrev ofSlots : ℕ → ℕ → ℕ → List ℕ
 ofSlots slots a b = 0 ∷ 1 ∷ 3 ∷ slots ∷ word (Op.Slot Slot.LoadConst 1 a) ∷ word (Op.Slot Slot.LoadConst 2 b) ∷ word (Op.Three Three.Add 1 1 2) ∷ []
@@ -230,7 +234,7 @@ sharing =
     ∷ (answered (sum 3 0x3FF0000000000000 4 0x3FF0000000000000) 1 8 8 1, 6 ∷ [])
     ∷ (answered (sum 3 0x3FF0000000000000 4 0x3FF0000000000000) 1 8 8 2, ofSlots 2 0 1)
     -- 2^37 - 1 twice: no slot
-    ∷ (answered (sum 3 (2 ^ 37 - 1) 3 (2 ^ 37 - 1)) 1 8 8 0, 0 ∷ 1 ∷ 3 ∷ 0 ∷ load 1 (4 * (2 ^ 37 - 1)) ∷ load 2 (4 * (2 ^ 37 - 1)) ∷ word (Op.Three Three.Add 1 1 2) ∷ [])
+    ∷ (answered (sum 3 most 3 most) 1 8 8 0, 0 ∷ 1 ∷ 3 ∷ 0 ∷ load 1 (4 * most) ∷ load 2 (4 * most) ∷ word (Op.Three Three.Add 1 1 2) ∷ [])
     -- 5 comes before the shared slot is looked for, 7 after it
     ∷ (answered (sum 4 tenth 4 tenth) 65534 8 8 1, 5 ∷ [])
     ∷ (answered (sum 4 tenth 4 tenth) 1 8 1 1, 7 ∷ [])

@@ -1,23 +1,10 @@
--- `with_some`: a list of 256 places does not run out.
-use native.Mathlib.Omega.{arith}
+-- `with_some`: its list does not run out.
 use Rattle.compile.proofs.Entries.{enough-places}
 use borrow.Author.Needs.{needs}
 use Rattle.compile.proofs.with_some.Statement.{statement}
 use Rattle.compile.proofs.with_some.Tie as tie
 
-returns : tie.Need-returns
-returns c =
-    let made = c .before .before .before .before .before .before .before in
-    let called = made .before .before .before .before .before .before .before .before .before in
-    enough-places (called .args .nodes .now) (called .args .params) (called .args .locals) (called .args .dest) _ _ 256 (called .pre .0) (called .pre .1) (made .generate .ensures)
-
 pub with-some-spec : {M : Type 1} → statement M
 with-some-spec =
     tie.close
-    (tie.spec
-    (λ c. search needs)
-    (λ c κs. search needs)
-    (λ c. search needs)
-    (λ c. search needs)
-    (λ c. search needs)
-    returns)
+    (tie.spec (λ c. search needs) (λ c κs. search needs) (λ c. search needs) (λ c. search needs) (λ c. search needs) (λ c. search (enough-places, needs)))
