@@ -22,7 +22,7 @@ ghost use Rattle.emit.specs.Read.{bufs, Says};
 ghost use Rattle.codegen.specs.Rules.{valueAt};
 ghost use Rattle.compile.specs.Buffers.{Compiles};
 ghost use Rattle.compile.specs.Compile.{dstOf, rootD, start, generated, compileOf};
-ghost use Rattle.compile.specs.Parts.{Root, IsRegister};
+ghost use Rattle.compile.specs.Parts.{Root, IsRegister, Leaves};
 
 // The destination as the rules take it.
 fn dst_of(dest: Dest) -> Dst
@@ -130,10 +130,7 @@ fn with_few(
     requires { ⌜ checkOf (now nodes) params locals dest ≡ 0 ⌝ }
     requires { ⌜ nodeCount (now nodes) ≤ 64 ⌝ }
     ensures { λ q. ⌜
-        Compiles q
-        (generated (tree (now (nodes .entry)) (nodeCount (now (nodes .entry)) - 1)) dest (params + locals) maxNodes
-        (length (now (code .entry))) (min (length (now (kinds .entry))) (length (now (payloads .entry)))))
-        (now (code .exit)) (now (kinds .exit)) (now (payloads .exit))
+        Leaves q (now (nodes .entry)) params locals dest (now (code .exit)) (now (kinds .exit)) (now (payloads .exit))
         (length (now (code .entry))) (length (now (kinds .entry))) (length (now (payloads .entry)))
         ⌝ }
 {
@@ -162,10 +159,7 @@ fn with_some(
     requires { ⌜ checkOf (now nodes) params locals dest ≡ 0 ⌝ }
     requires { ⌜ nodeCount (now nodes) ≤ 512 ⌝ }
     ensures { λ q. ⌜
-        Compiles q
-        (generated (tree (now (nodes .entry)) (nodeCount (now (nodes .entry)) - 1)) dest (params + locals) maxNodes
-        (length (now (code .entry))) (min (length (now (kinds .entry))) (length (now (payloads .entry)))))
-        (now (code .exit)) (now (kinds .exit)) (now (payloads .exit))
+        Leaves q (now (nodes .entry)) params locals dest (now (code .exit)) (now (kinds .exit)) (now (payloads .exit))
         (length (now (code .entry))) (length (now (kinds .entry))) (length (now (payloads .entry)))
         ⌝ }
 {
@@ -194,10 +188,7 @@ fn with_many(
     requires { ⌜ checkOf (now nodes) params locals dest ≡ 0 ⌝ }
     requires { ⌜ nodeCount (now nodes) ≤ 4096 ⌝ }
     ensures { λ q. ⌜
-        Compiles q
-        (generated (tree (now (nodes .entry)) (nodeCount (now (nodes .entry)) - 1)) dest (params + locals) maxNodes
-        (length (now (code .entry))) (min (length (now (kinds .entry))) (length (now (payloads .entry)))))
-        (now (code .exit)) (now (kinds .exit)) (now (payloads .exit))
+        Leaves q (now (nodes .entry)) params locals dest (now (code .exit)) (now (kinds .exit)) (now (payloads .exit))
         (length (now (code .entry))) (length (now (kinds .entry))) (length (now (payloads .entry)))
         ⌝ }
 {
@@ -225,10 +216,7 @@ fn with_all(
 ) -> Compiled
     requires { ⌜ checkOf (now nodes) params locals dest ≡ 0 ⌝ }
     ensures { λ q. ⌜
-        Compiles q
-        (generated (tree (now (nodes .entry)) (nodeCount (now (nodes .entry)) - 1)) dest (params + locals) maxNodes
-        (length (now (code .entry))) (min (length (now (kinds .entry))) (length (now (payloads .entry)))))
-        (now (code .exit)) (now (kinds .exit)) (now (payloads .exit))
+        Leaves q (now (nodes .entry)) params locals dest (now (code .exit)) (now (kinds .exit)) (now (payloads .exit))
         (length (now (code .entry))) (length (now (kinds .entry))) (length (now (payloads .entry)))
         ⌝ }
 {
@@ -260,10 +248,7 @@ fn listed(
     requires { ⌜ checkOf (now nodes) params locals dest ≡ 0 ⌝ }
     requires { ⌜ 0 < most ⌝ }
     ensures { λ q. ⌜
-        Compiles q
-        (generated (tree (now (nodes .entry)) (nodeCount (now (nodes .entry)) - 1)) dest (params + locals) maxNodes
-        (length (now (code .entry))) (min (length (now (kinds .entry))) (length (now (payloads .entry)))))
-        (now (code .exit)) (now (kinds .exit)) (now (payloads .exit))
+        Leaves q (now (nodes .entry)) params locals dest (now (code .exit)) (now (kinds .exit)) (now (payloads .exit))
         (length (now (code .entry))) (length (now (kinds .entry))) (length (now (payloads .entry)))
         ⌝ }
 {
