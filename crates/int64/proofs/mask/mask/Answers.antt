@@ -3,8 +3,7 @@ use Rattle.std.proofs.Common.{◌≡◌, ℕ, ◌+◌, ◌-◌, ◌*◌, ◌%◌
 use native.Mathlib.Nat.{mul-mod_right, add-mul-mod_self_right}
 use Rattle.int64.specs.Mask.{mask_of}
 use Rattle.int64.proofs.sign.Laws.{one_shifted}
-use Rattle.int64.proofs.mask.mask.Statement.{statement}
-use Rattle.int64.proofs.mask.mask.Tie as tie
+use Rattle.int64.proofs.mask.mask.Goals as goal
 
 -- 2^n as a multiple of 2^64
 multiple : (n : ℕ) → 64 ≤ n → 2 ^ n ≡ 2 ^ 64 * 2 ^ (n - 64)
@@ -23,15 +22,18 @@ full lo len h =
     = ap (λ (n : ℕ). 2 ^ lo * n) e ∙ mul-add (2 ^ lo) (2 ^ 64 - 1) ((q - 1) * 2 ^ 64) ∙ omega (arith, mul_assoc (2 ^ lo) (q - 1) (2 ^ 64)) in
     ap (λ (n : ℕ). n % 2 ^ 64) f ∙ add-mul-mod_self_right ((2 ^ 64 - 1) * 2 ^ lo) (2 ^ lo * (q - 1)) (2 ^ 64)
 
-pub mask_spec : {M : Type 1} → statement M
+pub returns-then-lo-ge64 : goal.returns-then-lo-ge64
 unfolding mask_of
-mask_spec =
-    tie.close
-    (tie.spec
-    (λ c. sym (past c.before.args.lo c.before.args.len c.if1.true))
-    (λ c. search rules)
-    (λ c. sym (full c.before.before.args.lo c.before.before.args.len c.if2.true))
-    (λ c. search rules)
-    (λ c. rw (one_shifted c.before.before.args.len c.if2.false) (pow_pos c.before.before.args.len))
-    (λ c. search rules)
-    (λ c. rw (one_shifted c.before.before.args.len c.if2.false) (ap (λ (n : ℕ). n % 2 ^ 64) (mul_comm (2 ^ c.before.before.args.len - 1) (2 ^ c.before.before.args.lo)))))
+returns-then-lo-ge64 c = sym (past c.args.lo c.args.len c.if-lo-ge64.true)
+
+pub returns-then-len-ge64 : goal.returns-then-len-ge64
+unfolding mask_of
+returns-then-len-ge64 c = sym (full c.args.lo c.args.len c.if-len-ge64.true)
+
+pub overflow_sub-result : goal.overflow_sub-result
+unfolding mask_of
+overflow_sub-result c = rw (one_shifted c.args.len c.if-len-ge64.false) (pow_pos c.args.len)
+
+pub returns : goal.returns
+unfolding mask_of
+returns c = rw (one_shifted c.args.len c.if-len-ge64.false) (ap (λ (n : ℕ). n % 2 ^ 64) (mul_comm (2 ^ c.args.len - 1) (2 ^ c.args.lo)))
