@@ -1,7 +1,10 @@
-// Numbers of 64 bits, least byte first, on standard input and output: what the replay programs share.
+// Numbers of 64 bits, least byte first, from a reader and to a writer, which are standard input and output in the replay programs that share this.
 #![tactic(auto)]
 
-ghost use Rattle.std.specs.Prelude.{◌≡◌, ◌+◌, ◌*◌, ◌≤◌, min, length, get_or};
+ghost use Rattle.std.specs.Prelude.{◌≡◌, ◌+◌, ◌*◌, ◌≤◌, min, length};
+
+use std::io;
+use std::io::{ErrorKind, Read, Write};
 
 fn wide(b: u8) -> u64
     ensures value { result ≡ b }
@@ -59,17 +62,37 @@ fn bytes_of(w: u64) -> [u8; 8]
     b
 }
 
-// The next number of standard input; where the input has ended, its missing bytes are 0.
-pub fn read_word() -> u64 {
-    let mut b = [0u8; 8];
-    let _ = io::read_full(0, &mut b);
-    word_of(&b)
+// Fills the bytes from the input, as far as it goes. A read that a signal cut off is tried again.
+fn read_full<R: Read>(input: &mut R, bytes: &mut [u8]) -> io::Result<()> {
+    let mut at = 0;
+    for _ in 0..u64::MAX {
+        if at >= bytes.len() {
+            return Ok(());
+        }
+        match input.read(&mut bytes[at..]) {
+            Ok(0) => return Ok(()),
+            Ok(n) => at += n,
+            Err(e) => {
+                if e.kind() != ErrorKind::Interrupted {
+                    return Err(e);
+                }
+            }
+        }
+    }
+    Ok(())
 }
 
-// Writes a number to standard output.
-pub fn write_word(w: u64) {
+// The next number of the input; where the input has ended, its missing bytes are 0.
+pub fn read_word<R: Read>(input: &mut R) -> io::Result<u64> {
+    let mut b = [0u8; 8];
+    read_full(input, &mut b)?;
+    Ok(word_of(&b))
+}
+
+// Writes a number to the output.
+pub fn write_word<W: Write>(output: &mut W, w: u64) -> io::Result<()> {
     let b = bytes_of(w);
-    let _ = io::write_all(1, &b);
+    output.write_all(&b)
 }
 
 fn keep_word(words: &mut [u64], at: u64, w: u64) {
@@ -84,25 +107,31 @@ fn keep_byte(bytes: &mut [u8], at: u64, b: u8) {
     }
 }
 
-// The next n numbers of standard input, each into both slices; what has no place in one is dropped there.
-fn read_into(words: &mut [u64], bytes: &mut [u8], n: u64) {
+// The next n numbers of the input, each into both slices; what has no place in one is dropped there.
+fn read_into<R: Read>(
+    input: &mut R,
+    words: &mut [u64],
+    bytes: &mut [u8],
+    n: u64,
+) -> io::Result<()> {
     for i in 0..n {
-        let w = read_word();
+        let w = read_word(input)?;
         keep_word(words, i, w);
         keep_byte(bytes, i, byte_of(w));
     }
+    Ok(())
 }
 
-// The next n numbers of standard input into the start of `words`; what has no place there is read and dropped.
-pub fn read_words(words: &mut [u64], n: u64) {
+// The next n numbers of the input into the start of `words`; what has no place there is read and dropped.
+pub fn read_words<R: Read>(input: &mut R, words: &mut [u64], n: u64) -> io::Result<()> {
     let mut none = [0u8; 1];
-    read_into(words, &mut none, n);
+    read_into(input, words, &mut none, n)
 }
 
 // The same for bytes, each of which stands in a number of its own.
-pub fn read_bytes(bytes: &mut [u8], n: u64) {
+pub fn read_bytes<R: Read>(input: &mut R, bytes: &mut [u8], n: u64) -> io::Result<()> {
     let mut none = [0u64; 1];
-    read_into(&mut none, bytes, n);
+    read_into(input, &mut none, bytes, n)
 }
 
 // The number at a position of the words, or else of the bytes.
@@ -116,21 +145,22 @@ fn number_at(words: &[u64], bytes: &[u8], i: usize) -> u64 {
     0
 }
 
-fn write_from(words: &[u64], bytes: &[u8], n: usize) {
+fn write_from<W: Write>(output: &mut W, words: &[u64], bytes: &[u8], n: usize) -> io::Result<()> {
     for i in 0..n {
-        write_word(number_at(words, bytes, i));
+        write_word(output, number_at(words, bytes, i))?;
     }
+    Ok(())
 }
 
 // Writes each number of `words`.
-pub fn write_words(words: &[u64]) {
+pub fn write_words<W: Write>(output: &mut W, words: &[u64]) -> io::Result<()> {
     let none = [0u8; 1];
-    write_from(words, &none, words.len());
+    write_from(output, words, &none, words.len())
 }
 
 // Writes each byte as a number.
-pub fn write_bytes(bytes: &[u8]) {
+pub fn write_bytes<W: Write>(output: &mut W, bytes: &[u8]) -> io::Result<()> {
     let none = [0u64; 1];
     let k = 0;
-    write_from(&none[..k], bytes, bytes.len());
+    write_from(output, &none[..k], bytes, bytes.len())
 }
