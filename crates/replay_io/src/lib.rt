@@ -7,7 +7,7 @@ ghost use Rattle.std.specs.Io.KnownBytes.{Appends, Consumes, IsAtEnd};
 ghost use Rattle.replay_io.specs.Numbers.{number_bytes, nth_number, DropsNumbers};
 
 use std::io;
-use std::io::{ErrorKind, Read, Write};
+use std::io::{Read, Write};
 
 fn wide(b: u8) -> u64
     ensures value { result ≡ b }
@@ -104,6 +104,7 @@ pub fn write_word<W: Write>(output: &mut W, w: u64) -> io::Result<()>
     output.write_all(&b)
 }
 
+// Writes a number to its place; where there is none, it is dropped.
 fn keep_word(words: &mut [u64], at: u64, w: u64)
     ensures { words.new ≡ set words.old at w }
 {
