@@ -5,8 +5,7 @@ use lib.Dec.{T}
 use lib.Ieee.{Float, nan, inf, fin, is_nan, ne, to_bits, binary64}
 use lib.Ieee.Compare.{differs_from_itself}
 use borrow.Author.Rules.{rules}
-use Rattle.float.proofs.bits.pattern.Statement.{statement}
-use Rattle.float.proofs.bits.pattern.Tie as tie
+use Rattle.float.proofs.bits.pattern.Goals as goal
 
 no_nan : (x : Float) → ne x x ≡ false → T (not (is_nan x))
 unfolding is_nan ne
@@ -14,11 +13,10 @@ no_nan nan h = subst T h tt
 no_nan (inf s) h = tt
 no_nan (fin s m e) h = tt
 
-pub pattern_spec : {M : Type 1} → statement M
+pub float_to_bits-result : goal.float_to_bits-result
 unfolding to_bits
-pattern_spec =
-    tie.close
-    (tie.spec
-    (λ c. no_nan c.before.args.x c.if1.false)
-    (λ c. sym (ap (to_bits binary64) (differs_from_itself c.before.args.x (subst T (sym c.if1.true) tt))))
-    (λ c. search rules))
+float_to_bits-result c = no_nan c.args.x c.if-x.false
+
+pub returns-then-x : goal.returns-then-x
+unfolding to_bits
+returns-then-x c = sym (ap (to_bits binary64) (differs_from_itself c.args.x (subst T (sym c.if-x.true) tt)))
