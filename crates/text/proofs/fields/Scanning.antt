@@ -1,8 +1,8 @@
 -- Fields found by position: where a search for a blank ends, and what the fields from a position on are.
 use mathlib.Core.Path.{◌≡◌, refl, sym, ◌∙◌, ap}
-use mathlib.Core.Bool.{Bool, true, false, beq, cond, ◌&&◌}
+use mathlib.Core.Bool.{Bool, true, false, beq}
 use mathlib.Core.List.{List, [], ◌∷◌}
-use Prim.Native.Nat.{ℕ, zero, suc, ◌+◌, ◌-◌, ◌≤◌, ◌<◌}
+use Prim.Native.Nat.{ℕ, suc, ◌+◌, ◌-◌, ◌≤◌, ◌<◌}
 use native.Mathlib.Decide.{dec_lt}
 use native.Mathlib.Numerals.{add-one}
 use native.Mathlib.Omega.{arith}
@@ -11,8 +11,8 @@ use lib.ListN.{length, get_or, take, drop, length-drop, drop_of_length-le}
 use lib.Pointwise.{pointwise}
 use lib.Seq.{drop-cons, drop-drop, get_or-drop}
 use borrow.Author.Rules.{rules}
-use borrow.Author.Tests.{eq-eqb, ne_eqb, eqb-true, lt-ltb, le-ltb, ltb-true, ltb-false}
-use Rattle.text.specs.Fields.{is_blank, push, opened, fields_of, same, place_from, place_of}
+use borrow.Author.Tests.{eq-eqb, ne_eqb, lt-ltb, le-ltb, ltb-true, ltb-false}
+use Rattle.text.specs.Fields.{is_blank, push, opened, fields_of, same, place_from}
 use Rattle.text.specs.Scan.{lead, onward}
 use Rattle.text.specs.declared.fields.Place.{Place}
 use Rattle.text.specs.declared.fields.Place.TheVariants.{At, Nowhere}

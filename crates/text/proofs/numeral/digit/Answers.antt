@@ -1,5 +1,4 @@
 -- `numeral::digit` meets its contract: a chain of tests. Assumes nothing.
-use borrow.Author.Rules.{rules}
 use Rattle.text.specs.Numeral.{digit_of}
 use Rattle.text.proofs.numeral.Reading.{tests}
 use Rattle.text.proofs.numeral.digit.Goals as goal

@@ -11,9 +11,6 @@ bounds-s-i c = search turns
 pub more-requires : goal.more-requires
 more-requires c = search turns
 
-pub enum_known-m : goal.enum_known-m
-enum_known-m c = search turns
-
 pub overflow_add-i : goal.overflow_add-i
 overflow_add-i c = search turns
 
@@ -23,14 +20,8 @@ loop-i-smaller c = search turns
 pub loop-i-preserved : goal.loop-i-preserved
 loop-i-preserved c = search turns
 
-pub enum_told-1 : goal.enum_told-1
-enum_told-1 c = search turns
-
 pub returns-in-NoNumber : goal.returns-in-NoNumber
 returns-in-NoNumber c = search turns
-
-pub enum_told-in-TooLarge : goal.enum_told-in-TooLarge
-enum_told-in-TooLarge c = search turns
 
 pub returns-in-TooLarge : goal.returns-in-TooLarge
 returns-in-TooLarge c = search turns

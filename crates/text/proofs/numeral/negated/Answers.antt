@@ -2,9 +2,6 @@
 use Rattle.text.proofs.numeral.Reading.{signs}
 use Rattle.text.proofs.numeral.negated.Goals as goal
 
-pub enum_known-r : goal.enum_known-r
-enum_known-r c = search signs
-
 pub returns-then-n-eq0 : goal.returns-then-n-eq0
 returns-then-n-eq0 c = search signs
 
@@ -16,12 +13,6 @@ overflow_add-result c = search signs
 
 pub returns-then-n-le9223372036854775808 : goal.returns-then-n-le9223372036854775808
 returns-then-n-le9223372036854775808 c = search signs
-
-pub enum_told-1 : goal.enum_told-1
-enum_told-1 c = search signs
-
-pub enum_told-in-TooLarge : goal.enum_told-in-TooLarge
-enum_told-in-TooLarge c = search signs
 
 pub returns-else-n-le9223372036854775808 : goal.returns-else-n-le9223372036854775808
 returns-else-n-le9223372036854775808 c = search signs

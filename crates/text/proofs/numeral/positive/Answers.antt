@@ -2,17 +2,8 @@
 use Rattle.text.proofs.numeral.Reading.{signs}
 use Rattle.text.proofs.numeral.positive.Goals as goal
 
-pub enum_known-r : goal.enum_known-r
-enum_known-r c = search signs
-
 pub returns-then-n-lt9223372036854775808 : goal.returns-then-n-lt9223372036854775808
 returns-then-n-lt9223372036854775808 c = search signs
-
-pub enum_told-1 : goal.enum_told-1
-enum_told-1 c = search signs
-
-pub enum_told-in-TooLarge : goal.enum_told-in-TooLarge
-enum_told-in-TooLarge c = search signs
 
 pub returns-else-n-lt9223372036854775808 : goal.returns-else-n-lt9223372036854775808
 returns-else-n-lt9223372036854775808 c = search signs
