@@ -74,25 +74,10 @@ fn shown(rt: &impl Print, name: &[u8], s: &[u8], line: u64, h: Head) -> io::Resu
     let mut payloads = [0u64; VALUES];
     put_nodes(s, &mut nodes);
     put_values(s, &mut kinds, &mut payloads);
-    show(
-        rt,
-        name,
-        s,
-        line,
-        &mut nodes,
-        &mut kinds,
-        &mut payloads,
-        h,
-    )
+    show(rt, name, s, line, &mut nodes, &mut kinds, &mut payloads, h)
 }
 
-fn expression(
-    rt: &impl Print,
-    name: &[u8],
-    s: &[u8],
-    line: u64,
-    h: Head,
-) -> io::Result<Outcome> {
+fn expression(rt: &impl Print, name: &[u8], s: &[u8], line: u64, h: Head) -> io::Result<Outcome> {
     if !h.some {
         return Ok(Outcome::Nothing);
     }
@@ -150,7 +135,10 @@ fn is_marked(s: &[u8]) -> bool {
 fn text(rt: &impl Print, name: &[u8], s: &[u8], t: Totals) -> io::Result<Totals> {
     if is_marked(s) {
         say(rt, name)?;
-        say(rt, b":1: the text begins with a byte order mark (BOM): save it as UTF-8 without one\n\n")?;
+        say(
+            rt,
+            b":1: the text begins with a byte order mark (BOM): save it as UTF-8 without one\n\n",
+        )?;
         return Ok(counted(t, Outcome::Unreadable));
     }
     let sum = texts(rt, name, s, t)?;

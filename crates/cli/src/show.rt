@@ -308,14 +308,7 @@ fn answers(
     payloads: &mut [u64],
     h: Head,
 ) -> io::Result<Outcome> {
-    list(
-        rt,
-        words,
-        slot_kinds,
-        slot_payloads,
-        o.register,
-        o.frame,
-    )?;
+    list(rt, words, slot_kinds, slot_payloads, o.register, o.frame)?;
     let tree = say_evaluated(rt, nodes, kinds, payloads, h)?;
     if is_ready(rt, h)? {
         let ran = run(
@@ -470,14 +463,5 @@ pub fn show(
 ) -> io::Result<Outcome> {
     let room = within(4 * within(h.nodes, NODES), nodes.len());
     say_layout(rt, h)?;
-    show_table(
-        rt,
-        name,
-        s,
-        line,
-        &mut nodes[..room],
-        kinds,
-        payloads,
-        h,
-    )
+    show_table(rt, name, s, line, &mut nodes[..room], kinds, payloads, h)
 }

@@ -43,7 +43,10 @@ fn next(p: u64) -> u64 {
 }
 
 fn say_between(rt: &impl Print, p: u64) -> io::Result<()> {
-    say(rt, b"no float is equal to it; write the one that is meant: ")?;
+    say(
+        rt,
+        b"no float is equal to it; write the one that is meant: ",
+    )?;
     say_value(rt, 3, p)?;
     say(rt, b" or ")?;
     say_value(rt, 3, next(p))
@@ -104,13 +107,7 @@ fn clash_number(c: Clash) -> u64 {
 }
 
 // Whether a line contradicts those before it. If so, a message is written.
-fn say_clash(
-    rt: &impl Print,
-    name: &[u8],
-    l: &[u8],
-    line: u64,
-    c: Clash,
-) -> io::Result<bool> {
+fn say_clash(rt: &impl Print, name: &[u8], l: &[u8], line: u64, c: Clash) -> io::Result<bool> {
     let n = clash_line(c);
     if n == 0 {
         return Ok(false);
