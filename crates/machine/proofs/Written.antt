@@ -37,7 +37,7 @@ use Rattle.effect.specs.Forms.{three_kind, arith_kind, shift_kind}
 use Rattle.effect.proofs.EffectLaws.{three-form, shift-form, arith-form, if-form, jump-form, jump-imm-form}
 use Rattle.machine.specs.Step.{Next, go, put, stop, settle_of, decoded_of, word_effect}
 use Rattle.machine.proofs.Outcomes.{picked, settles}
-use Rattle.ops.proofs.Closed.{Held, picks, exact, as_floats, negates, binaries}
+use Rattle.ops.proofs.Closed.{Held, picks, exact, as_floats_lem, negates, binaries}
 
 -- ---- an effect's answer
 
@@ -76,10 +76,10 @@ masks lo len = record { back = sfits_to_z {w = w64} {n = mask_of lo len} (record
 -- a literal is no larger than an Int's result may be
 sums-imm : (i : IntOp.Op) (f : FloatOp.Op) (v : Datum) (z : ℤ) → ((a : ℤ) → Held (from_int (I.operate i a z))) → Held (arith_of i f v (int z))
 unfolding arith_of
-sums-imm i f nil z h = as_floats f nil (int z)
-sums-imm i f (bool b) z h = as_floats f (bool b) (int z)
+sums-imm i f nil z h = as_floats_lem f nil (int z)
+sums-imm i f (bool b) z h = as_floats_lem f (bool b) (int z)
 sums-imm i f (int a) z h = h a
-sums-imm i f (float p) z h = as_floats f (float p) (int z)
+sums-imm i f (float p) z h = as_floats_lem f (float p) (int z)
 
 ariths-imm : (k : Arith) (x : Result) (z : ℤ) → Held (both (arith_kind k) x (literal z))
 unfolding both I.operate

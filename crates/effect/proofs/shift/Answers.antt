@@ -1,0 +1,7 @@
+-- `shift` meets its contract: what was read, and a count.
+use borrow.Author.Rules.{rules}
+use Rattle.effect.proofs.EffectLaws.{forms}
+use Rattle.effect.proofs.shift.Goals as goal
+
+pub returns : goal.returns
+returns c = search (forms, rules)

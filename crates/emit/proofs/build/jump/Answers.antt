@@ -1,0 +1,7 @@
+-- `build::jump` meets its contract: the two registers.
+use borrow.Author.Rules.{rules}
+use Rattle.emit.proofs.build.Words.{words}
+use Rattle.emit.proofs.build.jump.Goals as goal
+
+pub returns : goal.returns
+returns c = search words

@@ -1,0 +1,51 @@
+-- `first` meets its contract: each arm knows the rule, and a node of that rule has the child.
+use borrow.Author.Rules.{rules as steps}
+use Rattle.eval.proofs.next.Laws.{rules}
+use Rattle.eval.proofs.next.first.Goals as goal
+
+ruleset laws = (rules, steps)
+
+pub enum_told-1 : goal.enum_told-1
+enum_told-1 c = search laws
+
+pub child_1-requires : goal.child_1-requires
+child_1-requires c = search laws
+
+pub enum_told-in-Operator : goal.enum_told-in-Operator
+enum_told-in-Operator c = search laws
+
+pub child_2-requires : goal.child_2-requires
+child_2-requires c = search laws
+
+pub enum_told-in-And : goal.enum_told-in-And
+enum_told-in-And c = search laws
+
+pub child_2-requires-in-And : goal.child_2-requires-in-And
+child_2-requires-in-And c = search laws
+
+pub enum_told-in-Or : goal.enum_told-in-Or
+enum_told-in-Or c = search laws
+
+pub child_2-requires-in-Or : goal.child_2-requires-in-Or
+child_2-requires-in-Or c = search laws
+
+pub enum_told-in-Ternary : goal.enum_told-in-Ternary
+enum_told-in-Ternary c = search laws
+
+pub child_3-requires : goal.child_3-requires
+child_3-requires c = search laws
+
+pub returns-in-Unary : goal.returns-in-Unary
+returns-in-Unary c = search laws
+
+pub returns-in-Operator : goal.returns-in-Operator
+returns-in-Operator c = search laws
+
+pub returns-in-And : goal.returns-in-And
+returns-in-And c = search laws
+
+pub returns-in-Or : goal.returns-in-Or
+returns-in-Or c = search laws
+
+pub returns-in-Ternary : goal.returns-in-Ternary
+returns-in-Ternary c = search laws

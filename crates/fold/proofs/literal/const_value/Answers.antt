@@ -1,0 +1,13 @@
+-- `literal::const_value` meets its contract: by the size of the literal.
+use borrow.Author.Rules.{rules}
+use Rattle.fold.proofs.literal.Literals.{literals}
+use Rattle.fold.proofs.literal.const_value.Goals as goal
+
+pub returns-in_default : goal.returns-in_default
+returns-in_default c = search (literals, rules)
+
+pub returns-then-within : goal.returns-then-within
+returns-then-within c = search (literals, c.in-Is.known_told-1-own.given.0.1, rules)
+
+pub returns : goal.returns
+returns c = search (literals, c.in-Is.known_told-1-own.given.0.1, rules)

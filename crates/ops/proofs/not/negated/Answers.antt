@@ -1,0 +1,15 @@
+-- `negated` meets its contract: a fault stays what it is.
+use mathlib.Core.Path.{sym, ap, ◌∙◌}
+use Rattle.value.specs.Answer.{result_of}
+use Rattle.ops.specs.Not.{negate}
+use Rattle.value.specs.declared.answer.Answer.{Answer}
+use borrow.Author.Rules.{rules}
+use Rattle.ops.proofs.not.negated.Goals as goal
+
+pub returns-in-Is : goal.returns-in-Is
+unfolding negate
+returns-in-Is c = c.not.ensures ∙ sym (ap (λ (a : Answer). negate (result_of a)) c.in-Is.is)
+
+pub returns-in-Fault : goal.returns-in-Fault
+unfolding negate
+returns-in-Fault c = sym (ap (λ (a : Answer). negate (result_of a)) c.in-Fault.is)

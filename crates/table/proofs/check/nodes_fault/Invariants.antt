@@ -1,0 +1,16 @@
+-- `check::nodes_fault` meets its contract. The invariant: the nodes passed have no fault, and the last of them has the first and the depth that are kept.
+use mathlib.Core.Path.{◌≡◌, refl}
+use Prim.Native.Nat.{◌-◌, ◌≤◌}
+use native.Mathlib.Omega.{arith}
+use borrow.Author.Rules.{rules}
+use Rattle.table.specs.Table.{nodes_fault, node_count}
+use Rattle.table.specs.Nodes.{Last}
+use Rattle.table.proofs.Nodes.{passes}
+use Rattle.table.proofs.Rights.{loops, last-zero}
+use Rattle.table.proofs.check.nodes_fault.Given as goal
+
+abbrev pub invariant-loop-i : goal.invariant-loop-i
+invariant-loop-i l = (l.i ≤ node_count l.nodes) × (nodes_fault l.nodes l.base l.i ≡ 0) × Last l.nodes l.i l.e l.g
+
+abbrev pub decreases-loop-i : goal.decreases-loop-i
+decreases-loop-i l = node_count l.nodes - l.i

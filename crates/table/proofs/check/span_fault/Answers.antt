@@ -1,0 +1,30 @@
+-- `check::span_fault` meets its contract: each return is a law of the span.
+use borrow.Author.Rules.{rules}
+use Rattle.table.proofs.Parts.{parts}
+use Rattle.table.proofs.check.span_fault.Goals as goal
+
+ruleset laws = (parts, rules)
+
+pub enum_told-1 : goal.enum_told-1
+enum_told-1 c = search laws
+
+pub enum_known-s : goal.enum_known-s
+enum_known-s c = search laws
+
+pub returns-then-f-e : goal.returns-then-f-e
+returns-then-f-e c = search laws
+
+pub returns-then-d-eq0 : goal.returns-then-d-eq0
+returns-then-d-eq0 c = search laws
+
+pub overflow_sub-d : goal.overflow_sub-d
+overflow_sub-d c = search laws
+
+pub returns-then-d-g : goal.returns-then-d-g
+returns-then-d-g c = search laws
+
+pub returns-in-Missing : goal.returns-in-Missing
+returns-in-Missing c = search laws
+
+pub returns-else-d-g : goal.returns-else-d-g
+returns-else-d-g c = search laws
