@@ -2,9 +2,9 @@
 # The proved library for another processor: tools/port.sh TARGET.. ('all' for every one; without a word it lists them).
 # Writes target/port/TARGET/libvosemaqe.a, vosemaqe.h, and the stack frame of each function, frames; docs/PORTING.md says how a firmware links them.
 #
-# `rt lib` runs as always, so nothing is compiled that is not proved. It runs over a shadow of the kit (shadow.sh), where clang's place has a script that keeps the
-# module which clang is handed; the kit's own clang then compiles that module for the target. What is proved is the module's source; that this compiler's code for
-# a target does the same is tested (tests/port.sh), as it is for x86-64.
+# `rt lib` runs as always, so nothing is compiled that is not proved. It runs over a shadow of the kit (shadow.sh), where clang's place has a script that
+# keeps the module which clang is handed; the kit's own clang then compiles that module for the target. What is proved is the module's source; that this
+# compiler's code for a target does the same is tested (tests/port.sh), as it is for x86-64.
 set -euo pipefail
 cd "$(dirname "$0")/.."
 targets="cortex-m0plus cortex-m4 cortex-m7 rv32imac aarch64 wasm32"

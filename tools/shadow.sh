@@ -1,6 +1,6 @@
 #!/usr/bin/env bash
-# A second kit of links to the installed one, for a tool that wants its own: tools/shadow.sh FOLDER. Its `rt`, FOLDER/bin/rt, keeps its work beside FOLDER, where no
-# other checkout's lies, and any of its files may be replaced by the tool (tools/port.sh puts a script in the place of clang).
+# A second kit of links to the installed one, for a tool that wants its own: tools/shadow.sh FOLDER. Its `rt`, FOLDER/bin/rt, keeps its work beside FOLDER,
+# where no other checkout's lies, and the tool may replace any of its files (tools/port.sh puts a script in the place of clang).
 set -euo pipefail
 command -v rt >/dev/null || { echo "shadow: no 'rt' on the PATH: the Rattle kit is wanted (README.md)" >&2; exit 1; }
 kit=$(dirname "$(rt doc)") to=$1
