@@ -1,0 +1,13 @@
+-- `step::put` meets its contract: past the registers, a value or a fault.
+use borrow.Author.Rules.{rules}
+use Rattle.machine.proofs.StepLaws.{steps}
+use Rattle.machine.proofs.step.put.Goals as goal
+
+pub returns-then-room-d : goal.returns-then-room-d
+returns-then-room-d c = search (steps, rules)
+
+pub returns-in-Is : goal.returns-in-Is
+returns-in-Is c = search (steps, rules)
+
+pub returns-in-Fault : goal.returns-in-Fault
+returns-in-Fault c = search (steps, rules)
