@@ -4,11 +4,7 @@ use Rattle.claim.proofs.Entry.{front_fits, front-count, accepted-whole, refused-
 use Rattle.agree.proofs.compile_evaluate_and_run.Goals as goal
 
 pub returns-in-Done : goal.returns-in-Done
-returns-in-Done c =
-    let told = c in
-    let made = told in
-    let seen = made in
-    search (accepted-whole, seen.before.before.are-wide.ensures, seen.are-wide2.ensures, made.compile.ensures, told.in-Done.is, c.evaluate_and_run-both.ensures)
+returns-in-Done c = search (accepted-whole, c.are_wide.ensures, c.are_wide-2.ensures, c.compile-compiled.ensures, c.in-Done.is, c.evaluate_and_run-both.ensures)
 
 pub slice_bounds-evaluate_and_run-end : goal.slice_bounds-evaluate_and_run-end
 slice_bounds-evaluate_and_run-end c = search (front_fits, rules)
