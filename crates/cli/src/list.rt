@@ -2,9 +2,10 @@
 use decode::Decoded;
 use operands::of_op::{PlainOp, plain_op};
 use print::{Numbers, say, tell, tell_line, two};
+use std::io;
 
 // The 77 opcodes by their numbers: a name and its operands. A literal has `~`, a target `@`, the raw bits of a value `$`.
-fn say_parts(p: PlainOp, at: u64) {
+fn say_parts(rt: &impl Print, p: PlainOp, at: u64) -> io::Result<()> {
     let n = Numbers {
         a: p.a,
         b: p.b,
@@ -14,6 +15,7 @@ fn say_parts(p: PlainOp, at: u64) {
         at: at,
     };
     tell_line(
+        rt,
         b"panic\n\
           breakpoint\n\
           nop\n\
@@ -93,25 +95,26 @@ fn say_parts(p: PlainOp, at: u64) {
           ret_imm40 $",
         p.opcode,
         n,
-    );
+    )
 }
 
-fn say_decoded(d: Decoded, at: u64) {
+fn say_decoded(rt: &impl Print, d: Decoded, at: u64) -> io::Result<()> {
     match d {
-        Decoded::Is(i) => say_parts(plain_op(i), at),
-        Decoded::Bad => say(b"a word that does not decode"),
+        Decoded::Is(i) => say_parts(rt, plain_op(i), at),
+        Decoded::Bad => say(rt, b"a word that does not decode"),
     }
 }
 
-fn list_word(at: u64, w: u64) {
-    tell(b"&  #  ", two(at, w));
-    say_decoded(decode::decode(w), at);
-    say(b"\n");
+fn list_word(rt: &impl Print, at: u64, w: u64) -> io::Result<()> {
+    tell(rt, b"&  #  ", two(at, w))?;
+    say_decoded(rt, decode::decode(w), at)?;
+    say(rt, b"\n")
 }
 
 // Each word on a line of its own.
-pub fn list_words(words: &[u64]) {
+pub fn list_words(rt: &impl Print, words: &[u64]) -> io::Result<()> {
     for i in 0..words.len() {
-        list_word(i as u64, words[i]);
+        list_word(rt, i as u64, words[i])?;
     }
+    Ok(())
 }

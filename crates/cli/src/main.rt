@@ -2,6 +2,8 @@
 // It reads the files that are named, and standard input for a file called -. A line of three dashes separates two expressions.
 #![tactic(auto)]
 
+ghost use Rattle.std.specs.Prelude.{◌≤◌, length, IfOk};
+
 mod gather;
 mod list;
 mod show;
@@ -13,6 +15,11 @@ use crate::show::{Outcome, show};
 use print::{four, say, tell};
 use reader::gather::{end_of, put_nodes, put_values};
 use reader::head::{Head, NODES};
+use std::env::{Env, FillError};
+use std::io::{Cursor, Read, Write};
+use std::rt::Files;
+use std::{fs, io, str};
+use text::scan::find;
 
 // Room for a text, for the nodes of an expression that is shown, and for as many values as there are registers.
 const TEXT: usize = 262144;
@@ -20,6 +27,9 @@ const TEXT: usize = 262144;
 const TABLE: usize = 4 * NODES;
 
 const VALUES: usize = 65535;
+
+// Room for the path of a file.
+const PATH: usize = 4096;
 
 // How many expressions had a value, were refused, stopped with a fault, could not be read. A file that cannot be read counts with the last.
 #[derive(Clone, Copy)]
@@ -58,41 +68,41 @@ fn counted(t: Totals, o: Outcome) -> Totals {
 }
 
 // An expression that can be read, and begins on a line.
-fn shown(name: &[u8], s: &[u8], line: u64, h: Head) -> Outcome {
+fn shown(rt: &impl Print, name: &[u8], s: &[u8], line: u64, h: Head) -> io::Result<Outcome> {
     let mut nodes = [0u64; TABLE];
     let mut kinds = [0u8; VALUES];
     let mut payloads = [0u64; VALUES];
     put_nodes(s, &mut nodes);
     put_values(s, &mut kinds, &mut payloads);
-    show(name, s, line, &mut nodes, &mut kinds, &mut payloads, h)
+    show(rt, name, s, line, &mut nodes, &mut kinds, &mut payloads, h)
 }
 
-fn expression(name: &[u8], s: &[u8], line: u64, h: Head) -> Outcome {
+fn expression(rt: &impl Print, name: &[u8], s: &[u8], line: u64, h: Head) -> io::Result<Outcome> {
     if !h.some {
-        return Outcome::Nothing;
+        return Ok(Outcome::Nothing);
     }
     let o = if h.bad {
         Outcome::Unreadable
     } else {
-        shown(name, s, line, h)
+        shown(rt, name, s, line, h)?
     };
-    say(b"\n");
-    o
+    say(rt, b"\n")?;
+    Ok(o)
 }
 
 // Every expression of a text.
-fn texts(name: &[u8], s: &[u8], t: Totals) -> Totals {
+fn texts(rt: &impl Print, name: &[u8], s: &[u8], t: Totals) -> io::Result<Totals> {
     let mut sum = t;
     let mut line = 1;
     let mut at = 0;
     while at < s.len() {
         let e = end_of(s, at);
-        let h = head_of(name, &s[at..e], line);
-        sum = counted(sum, expression(name, &s[at..e], line, h));
+        let h = head_of(rt, name, &s[at..e], line)?;
+        sum = counted(sum, expression(rt, name, &s[at..e], line, h)?);
         line = h.line;
         at = e;
     }
-    sum
+    Ok(sum)
 }
 
 // Whether two totals are the same.
@@ -122,46 +132,97 @@ fn is_marked(s: &[u8]) -> bool {
     }
 }
 
-fn text(name: &[u8], s: &[u8], t: Totals) -> Totals {
+fn text(rt: &impl Print, name: &[u8], s: &[u8], t: Totals) -> io::Result<Totals> {
     if is_marked(s) {
-        say(name);
-        say(b":1: the text begins with a byte order mark (BOM): save it as UTF-8 without one\n\n");
-        return counted(t, Outcome::Unreadable);
+        say(rt, name)?;
+        say(
+            rt,
+            b":1: the text begins with a byte order mark (BOM): save it as UTF-8 without one\n\n",
+        )?;
+        return Ok(counted(t, Outcome::Unreadable));
     }
-    let sum = texts(name, s, t);
+    let sum = texts(rt, name, s, t)?;
     if unchanged(sum, t) {
-        say(name);
-        say(b":1: no expression in this text\n\n");
-        return counted(t, Outcome::Unreadable);
+        say(rt, name)?;
+        say(rt, b":1: no expression in this text\n\n")?;
+        return Ok(counted(t, Outcome::Unreadable));
     }
-    sum
+    Ok(sum)
 }
 
-// A file that cannot be read, as the system says it.
-fn failed(name: &[u8], t: Totals) -> Totals {
-    os::fail(name);
+// An error as the system says it: std puts its number behind it, in parentheses.
+fn say_error(err: &impl Print, e: io::Error) -> io::Result<()> {
+    let mut words = Cursor::new([0u8; 256]);
+    write!(words, "{e} (")?;
+    let said = words.into_inner();
+    let end = find(&said, 0, b'(');
+    if end == 0 {
+        return Ok(());
+    }
+    say(err, &said[..end - 1])
+}
+
+fn say_failed(err: &impl Print, name: &[u8], e: io::Error) -> io::Result<()> {
+    say(err, name)?;
+    say(err, b": ")?;
+    say_error(err, e)?;
+    say(err, b"\n")
+}
+
+// A file that cannot be read, as the system says it. Where that cannot be written, the totals still tell of it.
+fn failed(err: &impl Print, name: &[u8], e: io::Error, t: Totals) -> Totals {
+    let _ = say_failed(err, name, e);
     counted(t, Outcome::Unreadable)
 }
 
 // A text that was read as far as there is room. One more read tells its end from a failure, and from a text that is too long.
-fn ended(name: &[u8], fd: i32, s: &[u8], t: Totals) -> Totals {
+fn ended(
+    rt: &impl Print,
+    err: &impl Print,
+    name: &[u8],
+    input: &mut impl Read,
+    s: &[u8],
+    t: Totals,
+) -> io::Result<Totals> {
     let mut more = [0u8; 1];
-    let got = libc::read(fd, &mut more);
-    if got < 0 {
-        return failed(name, t);
+    match input.read(&mut more) {
+        Ok(0) => text(rt, name, s, t),
+        Ok(_) => {
+            say(rt, name)?;
+            say(rt, b":1: the text has more than 262144 bytes\n\n")?;
+            Ok(counted(t, Outcome::Unreadable))
+        }
+        Err(e) => Ok(failed(err, name, e, t)),
     }
-    if got > 0 {
-        say(name);
-        say(b":1: the text has more than 262144 bytes\n\n");
-        return counted(t, Outcome::Unreadable);
-    }
-    text(name, s, t)
 }
 
-fn read_text(name: &[u8], fd: i32, t: Totals) -> Totals {
+// How many bytes were read, until the buffer is full or the input ends.
+fn read_full(input: &mut impl Read, buf: &mut [u8]) -> io::Result<usize>
+    ensures { IfOk result (λ n. n ≤ length buf.new) }
+{
+    let mut done = 0;
+    while done < buf.len() {
+        let n = input.read(&mut buf[done..])?;
+        if n == 0 {
+            break;
+        }
+        done += n;
+    }
+    Ok(done)
+}
+
+fn read_text(
+    rt: &impl Print,
+    err: &impl Print,
+    name: &[u8],
+    input: &mut impl Read,
+    t: Totals,
+) -> io::Result<Totals> {
     let mut buf = [0u8; TEXT];
-    let n = io::read_full(fd, &mut buf);
-    ended(name, fd, &buf[..n], t)
+    match read_full(input, &mut buf) {
+        Ok(n) => ended(rt, err, name, input, &buf[..n], t),
+        Err(e) => Ok(failed(err, name, e, t)),
+    }
 }
 
 fn is_dash(name: &[u8]) -> bool {
@@ -171,39 +232,80 @@ fn is_dash(name: &[u8]) -> bool {
     false
 }
 
-fn read_named(name: &[u8], t: Totals) -> Totals {
+// The number of the system's error for a name that it does not take.
+const EINVAL: i32 = 22;
+
+// A path is text.
+fn open<R: Files>(rt: &R, name: &[u8]) -> io::Result<R::File> {
+    match str::from_utf8(name) {
+        Ok(path) => fs::open(rt, path),
+        Err(_) => Err(io::Error::from_raw_os_error(EINVAL)),
+    }
+}
+
+fn read_named<R: Print + Input + Files>(
+    rt: &R,
+    err: &impl Print,
+    name: &[u8],
+    t: Totals,
+) -> io::Result<Totals> {
     if is_dash(name) {
-        return read_text(name, 0, t);
+        let mut input = rt.reader();
+        return read_text(rt, err, name, &mut input, t);
     }
-    let fd = os::open_read(name);
-    if fd < 0 {
-        return failed(name, t);
+    match open(rt, name) {
+        Ok(mut file) => read_text(rt, err, name, &mut file, t),
+        Err(e) => Ok(failed(err, name, e, t)),
     }
-    let sum = read_text(name, fd, t);
-    let _ = libc::close(fd);
-    sum
+}
+
+// The system's errors for an argument that is not there, and for one that is too long.
+const ENAMETOOLONG: i32 = 36;
+
+fn argument_error(e: FillError) -> io::Error {
+    match e {
+        FillError::NotPresent => io::Error::from_raw_os_error(EINVAL),
+        FillError::TooLong => io::Error::from_raw_os_error(ENAMETOOLONG),
+    }
 }
 
 // The file that the i-th argument names.
-fn read_argument(i: usize, t: Totals) -> Totals {
-    let mut path = io::buffer();
-    let n = os::arg(i, &mut path);
-    if os::errno() != 0 {
-        return failed(b"argument", t);
+fn read_argument<R: Print + Input + Files + Env>(
+    rt: &R,
+    err: &impl Print,
+    i: usize,
+    t: Totals,
+) -> io::Result<Totals> {
+    let mut path = [0u8; PATH];
+    match rt.arg(i, &mut path) {
+        Ok(n) => read_named(rt, err, &path[..n], t),
+        Err(e) => Ok(failed(err, b"argument", argument_error(e), t)),
     }
-    read_named(&path[..n], t)
+}
+
+// How many arguments there are, the program's name with them.
+fn arg_count(rt: &impl Env) -> usize {
+    let mut first = [0u8; 1];
+    for i in 0..usize::MAX {
+        if let Err(FillError::NotPresent) = rt.arg(i, &mut first) {
+            return i;
+        }
+    }
+    usize::MAX
 }
 
 // The last line is what the command ./vosemaqe takes its exit status from.
-fn say_totals(t: Totals) {
+fn say_totals(rt: &impl Print, t: Totals) -> io::Result<()> {
     tell(
+        rt,
         b"total: % with a value, % refused, % stopped by a fault, % unreadable\n",
         four(t.values, t.refused, t.faults, t.unreadable),
-    );
+    )
 }
 
-fn main() {
-    let n = os::arg_count();
+fn main(rt: HostRuntime) -> io::Result<()> {
+    let err = rt.stderr();
+    let n = arg_count(&rt);
     let mut t = Totals {
         values: 0,
         refused: 0,
@@ -211,10 +313,10 @@ fn main() {
         unreadable: 0,
     };
     if n < 2 {
-        t = read_named(b"-", t);
+        t = read_named(&rt, &err, b"-", t)?;
     }
     for i in 1..n {
-        t = read_argument(i, t);
+        t = read_argument(&rt, &err, i, t)?;
     }
-    say_totals(t);
+    say_totals(&rt, t)
 }

@@ -9,6 +9,7 @@ use machine::run::Ran;
 use print::{none, one, say, say_value, tell, tell_line, three, two};
 use reader::gather::put_spans;
 use reader::head::{Head, NODES, base_of, locals_of};
+use std::io;
 use table::Dest;
 use value::answer::Answer;
 
@@ -45,9 +46,10 @@ fn dest_of(d: u64) -> Dest {
 }
 
 // The meaning of a number that a caller can get back, and the line's end.
-fn say_meaning(n: u8) {
+fn say_meaning(rt: &impl Print, n: u8) -> io::Result<()> {
     if n < 20 {
         tell_line(
+            rt,
             b": no number of the table\n\
               : table empty, not a multiple of 4 words, or over 65536 nodes\n\
               : unknown kind, non-zero payload, a Float that is not finite, missing child, wrong first or depth, or the last node's first is not 0\n\
@@ -61,9 +63,10 @@ fn say_meaning(n: u8) {
               : a word that does not decode",
             n as u64,
             none(),
-        );
+        )?;
     } else {
         tell_line(
+            rt,
             b": wrong kind of value\n\
               : integer result outside 64 bits signed\n\
               : Mod by zero\n\
@@ -76,114 +79,145 @@ fn say_meaning(n: u8) {
               : ill-formed value lent",
             (n - 20) as u64,
             none(),
-        );
+        )?;
     }
-    say(b"\n");
+    say(rt, b"\n")
 }
 
-fn say_refused(n: u8) {
-    tell(b"refused with %", one(n as u64));
-    say_meaning(n);
+fn say_refused(rt: &impl Print, n: u8) -> io::Result<()> {
+    tell(rt, b"refused with %", one(n as u64))?;
+    say_meaning(rt, n)
 }
 
-fn say_layout(h: Head) {
+fn say_layout(rt: &impl Print, h: Head) -> io::Result<()> {
     tell(
+        rt,
         b"nodes %, parameters %, locals %",
         three(h.nodes as u64, h.params, locals_of(h)),
-    );
+    )?;
     if h.dest == 0 {
-        say(b", no destination\n");
-        return;
+        return say(rt, b", no destination\n");
     }
-    tell(b", destination r%\n", one(h.dest - 1));
+    tell(rt, b", destination r%\n", one(h.dest - 1))
 }
 
 // Each pair, after its number: a register that is given a value, or a constant.
-fn list_pairs(before: &[u8], kinds: &[u8], payloads: &[u64]) {
+fn list_pairs(rt: &impl Print, before: &[u8], kinds: &[u8], payloads: &[u64]) -> io::Result<()> {
     for i in 0..kinds.len() {
         if i < payloads.len() {
-            tell(before, one(i as u64));
-            say_value(kinds[i], payloads[i]);
-            say(b"\n");
+            tell(rt, before, one(i as u64))?;
+            say_value(rt, kinds[i], payloads[i])?;
+            say(rt, b"\n")?;
         }
     }
+    Ok(())
 }
 
-fn list(words: &[u64], slot_kinds: &[u8], slot_payloads: &[u64], register: u16, frame: u16) {
-    say(b"words:\n");
-    list_words(words);
+fn list(
+    rt: &impl Print,
+    words: &[u64],
+    slot_kinds: &[u8],
+    slot_payloads: &[u64],
+    register: u16,
+    frame: u16,
+) -> io::Result<()> {
+    say(rt, b"words:\n")?;
+    list_words(rt, words)?;
     if slot_kinds.len() != 0 {
-        say(b"constants:\n");
-        list_pairs(b"&  ", slot_kinds, slot_payloads);
+        say(rt, b"constants:\n")?;
+        list_pairs(rt, b"&  ", slot_kinds, slot_payloads)?;
     }
     tell(
+        rt,
         b"result in r%, frame of %\n",
         two(register as u64, frame as u64),
-    );
+    )
 }
 
 // Whether the tree has a value.
-fn say_tree(a: Answer) -> bool {
+fn say_tree(rt: &impl Print, a: Answer) -> io::Result<bool> {
     match a {
         Answer::Is(v) => {
-            say_value(value::kind_of(v), value::payload_of(v));
-            say(b"\n");
-            true
+            say_value(rt, value::kind_of(v), value::payload_of(v))?;
+            say(rt, b"\n")?;
+            Ok(true)
         }
         Answer::Fault(n) => {
-            tell(b"fault %", one(n as u64));
-            say_meaning(n);
-            false
+            tell(rt, b"fault %", one(n as u64))?;
+            say_meaning(rt, n)?;
+            Ok(false)
         }
     }
 }
 
 // The values that are given, and the tree's answer.
-fn say_evaluated(nodes: &[u64], kinds: &[u8], payloads: &[u64], h: Head) -> bool {
+fn say_evaluated(
+    rt: &impl Print,
+    nodes: &[u64],
+    kinds: &[u8],
+    payloads: &[u64],
+    h: Head,
+) -> io::Result<bool> {
     let n = within(h.values, kinds.len());
-    say(b"values:\n");
-    list_pairs(b"  r% = ", &kinds[..n], payloads);
-    say(b"tree:  ");
-    say_tree(eval::evaluate(nodes, h.params, locals_of(h), &kinds[..n], payloads))
+    say(rt, b"values:\n")?;
+    list_pairs(rt, b"  r% = ", &kinds[..n], payloads)?;
+    say(rt, b"tree:  ")?;
+    say_tree(
+        rt,
+        eval::evaluate(nodes, h.params, locals_of(h), &kinds[..n], payloads),
+    )
 }
 
-fn say_steps(n: u64) {
+fn say_steps(rt: &impl Print, n: u64) -> io::Result<()> {
     tell_line(
+        rt,
         b" after % steps\n after % step",
         if n == 1 { 1 } else { 0 },
         one(n),
-    );
+    )
 }
 
 // The value of a register.
-fn say_register(kinds: &[u8], payloads: &[u64], register: usize) {
+fn say_register(
+    rt: &impl Print,
+    kinds: &[u8],
+    payloads: &[u64],
+    register: usize,
+) -> io::Result<()> {
     if register < kinds.len() {
         if register < payloads.len() {
-            say_value(kinds[register], payloads[register]);
+            say_value(rt, kinds[register], payloads[register])?;
         }
     }
-    tell(b" in r%", one(register as u64));
+    tell(rt, b" in r%", one(register as u64))
 }
 
-fn say_stop(r: Ran) {
+fn say_stop(rt: &impl Print, r: Ran) -> io::Result<()> {
     tell(
+        rt,
         b"fault % at word %",
         two(r.number as u64, r.position as u64),
-    );
-    say_steps(r.steps);
-    say_meaning(r.number);
+    )?;
+    say_steps(rt, r.steps)?;
+    say_meaning(rt, r.number)
 }
 
 // Whether the words end with a value.
-fn say_run(r: Ran, kinds: &[u8], payloads: &[u64], register: usize) -> bool {
+fn say_run(
+    rt: &impl Print,
+    r: Ran,
+    kinds: &[u8],
+    payloads: &[u64],
+    register: usize,
+) -> io::Result<bool> {
     if r.number != 0 {
-        say_stop(r);
-        return false;
+        say_stop(rt, r)?;
+        return Ok(false);
     }
-    say_register(kinds, payloads, register);
-    say_steps(r.steps);
-    say(b"\n");
-    true
+    say_register(rt, kinds, payloads, register)?;
+    say_steps(rt, r.steps)?;
+    say(rt, b"\n")?;
+    Ok(true)
 }
 
 // What compiling gave, as numbers: words, constants, register and frame, or the number of a refusal.
@@ -217,6 +251,7 @@ fn out_of(c: Compiled) -> Out {
 
 // The words' answer. Registers past the values are Nil before a run.
 fn run(
+    rt: &impl Print,
     words: &[u64],
     slot_kinds: &[u8],
     slot_payloads: &[u64],
@@ -224,7 +259,7 @@ fn run(
     payloads: &mut [u64],
     o: Out,
     budget: u64,
-) -> bool {
+) -> io::Result<bool> {
     let n = within(o.frame as usize, kinds.len());
     let r = run::run(
         words,
@@ -235,20 +270,21 @@ fn run(
         slot_payloads,
         budget,
     );
-    say_run(r, kinds, payloads, o.register as usize)
+    say_run(rt, r, kinds, payloads, o.register as usize)
 }
 
 // Whether each parameter and local has a value. Without them the words are not run, which is told.
-fn is_ready(h: Head) -> bool {
-    say(b"words: ");
+fn is_ready(rt: &impl Print, h: Head) -> io::Result<bool> {
+    say(rt, b"words: ")?;
     if base_of(h) <= h.values as u64 {
-        return true;
+        return Ok(true);
     }
     tell(
+        rt,
         b"not run: % of % registers have a value\n",
         two(h.values as u64, base_of(h)),
-    );
-    false
+    )?;
+    Ok(false)
 }
 
 fn joint(tree: bool, words: bool) -> Outcome {
@@ -262,6 +298,7 @@ fn joint(tree: bool, words: bool) -> Outcome {
 
 // The words that were made, then the answers.
 fn answers(
+    rt: &impl Print,
     o: Out,
     nodes: &[u64],
     words: &[u64],
@@ -270,28 +307,28 @@ fn answers(
     kinds: &mut [u8],
     payloads: &mut [u64],
     h: Head,
-) -> Outcome {
-    list(words, slot_kinds, slot_payloads, o.register, o.frame);
-    let tree = say_evaluated(nodes, kinds, payloads, h);
-    if is_ready(h) {
-        return joint(
-            tree,
-            run(
-                words,
-                slot_kinds,
-                slot_payloads,
-                kinds,
-                payloads,
-                o,
-                h.budget,
-            ),
-        );
+) -> io::Result<Outcome> {
+    list(rt, words, slot_kinds, slot_payloads, o.register, o.frame)?;
+    let tree = say_evaluated(rt, nodes, kinds, payloads, h)?;
+    if is_ready(rt, h)? {
+        let ran = run(
+            rt,
+            words,
+            slot_kinds,
+            slot_payloads,
+            kinds,
+            payloads,
+            o,
+            h.budget,
+        )?;
+        return Ok(joint(tree, ran));
     }
-    Outcome::Fault
+    Ok(Outcome::Fault)
 }
 
 // What compiling gave: a refusal, or as many words and constants as there are.
 fn compiled(
+    rt: &impl Print,
     o: Out,
     nodes: &[u64],
     words: &[u64],
@@ -300,14 +337,15 @@ fn compiled(
     kinds: &mut [u8],
     payloads: &mut [u64],
     h: Head,
-) -> Outcome {
+) -> io::Result<Outcome> {
     if o.number != faults::NONE {
-        say_refused(o.number);
-        return Outcome::Refused;
+        say_refused(rt, o.number)?;
+        return Ok(Outcome::Refused);
     }
     let w = within(o.words, words.len());
     let k = within(o.slots, slot_kinds.len());
     answers(
+        rt,
         o,
         nodes,
         &words[..w],
@@ -320,7 +358,13 @@ fn compiled(
 }
 
 // The words, in room for those of every table that is shown.
-fn compile(nodes: &[u64], kinds: &mut [u8], payloads: &mut [u64], h: Head) -> Outcome {
+fn compile(
+    rt: &impl Print,
+    nodes: &[u64],
+    kinds: &mut [u8],
+    payloads: &mut [u64],
+    h: Head,
+) -> io::Result<Outcome> {
     let mut code = [0u64; WORDS];
     let mut slot_kinds = [0u8; SLOTS];
     let mut slot_payloads = [0u64; SLOTS];
@@ -334,6 +378,7 @@ fn compile(nodes: &[u64], kinds: &mut [u8], payloads: &mut [u64], h: Head) -> Ou
         &mut slot_payloads,
     );
     compiled(
+        rt,
         out_of(c),
         nodes,
         &code,
@@ -357,26 +402,34 @@ fn number_of(s: &[u8], nodes: &mut [u64], h: Head) -> u8 {
 }
 
 // Where an expression begins: the second line of a refusal that is about the whole of it.
-fn say_from(name: &[u8], line: u64) {
-    say(b"  ");
-    say_at(name, line);
-    say(b"the expression that begins here\n");
+fn say_from(rt: &impl Print, name: &[u8], line: u64) -> io::Result<()> {
+    say(rt, b"  ")?;
+    say_at(rt, name, line)?;
+    say(rt, b"the expression that begins here\n")
 }
 
 // The number of the check, then the node at fault; for 1 and 5, where the expression begins.
-fn refuse(n: u8, name: &[u8], s: &[u8], line: u64, nodes: &[u64], h: Head) {
-    say_refused(n);
+fn refuse(
+    rt: &impl Print,
+    n: u8,
+    name: &[u8],
+    s: &[u8],
+    line: u64,
+    nodes: &[u64],
+    h: Head,
+) -> io::Result<()> {
+    say_refused(rt, n)?;
     if faults::BAD_NODE <= n {
         if n <= faults::NOT_LOCAL {
-            say_where(name, nodes, s, line, h);
-            return;
+            return say_where(rt, name, nodes, s, line, h);
         }
     }
-    say_from(name, line);
+    say_from(rt, name, line)
 }
 
 // A table of as many nodes as there are.
 fn show_table(
+    rt: &impl Print,
     name: &[u8],
     s: &[u8],
     line: u64,
@@ -384,21 +437,22 @@ fn show_table(
     kinds: &mut [u8],
     payloads: &mut [u64],
     h: Head,
-) -> Outcome {
+) -> io::Result<Outcome> {
     let n = number_of(s, nodes, h);
     if n != faults::NONE {
-        refuse(n, name, s, line, nodes, h);
-        return Outcome::Refused;
+        refuse(rt, n, name, s, line, nodes, h)?;
+        return Ok(Outcome::Refused);
     }
-    let o = compile(nodes, kinds, payloads, h);
+    let o = compile(rt, nodes, kinds, payloads, h)?;
     if let Outcome::Refused = o {
-        say_from(name, line);
+        say_from(rt, name, line)?;
     }
-    o
+    Ok(o)
 }
 
 // An expression that can be read, and whose text begins on a line.
 pub fn show(
+    rt: &impl Print,
     name: &[u8],
     s: &[u8],
     line: u64,
@@ -406,8 +460,8 @@ pub fn show(
     kinds: &mut [u8],
     payloads: &mut [u64],
     h: Head,
-) -> Outcome {
+) -> io::Result<Outcome> {
     let room = within(4 * within(h.nodes, NODES), nodes.len());
-    say_layout(h);
-    show_table(name, s, line, &mut nodes[..room], kinds, payloads, h)
+    say_layout(rt, h)?;
+    show_table(rt, name, s, line, &mut nodes[..room], kinds, payloads, h)
 }

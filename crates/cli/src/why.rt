@@ -6,6 +6,8 @@ use print::{Numbers, four, none, one, say, tell, tell_line, two};
 use reader::head::{Head, base_of};
 use reader::read;
 use reader::why::{DEEP, FINITE, GIVEN, KIND, PAYLOAD, Seen, Spot, first_at_fault, look, why};
+use std::io;
+use text::scan::find;
 
 // The numbers that the text of a fault has.
 fn numbers(w: u64, s: Seen, base: u64) -> Numbers {
@@ -19,9 +21,10 @@ fn numbers(w: u64, s: Seen, base: u64) -> Numbers {
     }
 }
 
-fn say_seen(s: Seen, base: u64) {
+fn say_seen(rt: &impl Print, s: Seen, base: u64) -> io::Result<()> {
     let w = why(s, base);
     tell_line(
+        rt,
         b"nothing is at fault there\n\
           no kind has the number %\n\
           a node of kind % has no payload, but here it is %\n\
@@ -32,42 +35,56 @@ fn say_seen(s: Seen, base: u64) {
           a Float that is not finite",
         w,
         numbers(w, s, base),
-    );
-    say(b"\n");
+    )?;
+    say(rt, b"\n")
 }
 
 // What is at fault at a node.
-fn say_spot(name: &[u8], nodes: &[u64], s: &[u8], t: Spot, base: u64)
+fn say_spot(
+    rt: &impl Print,
+    name: &[u8],
+    nodes: &[u64],
+    s: &[u8],
+    t: Spot,
+    base: u64,
+) -> io::Result<()>
     requires node_bound { t.node ≤ 4097 }
     requires at_in_bounds { t.at ≤ length s.now }
 {
     let from = t.at;
-    let e = bytes::scan::find(s, from, s.len(), b'\n');
-    say_at(name, t.line);
-    tell(b"node %: ", one(t.node as u64));
-    say_seen(look(nodes, t.node, read(&s[from..e])), base);
+    let e = find(s, from, b'\n');
+    say_at(rt, name, t.line)?;
+    tell(rt, b"node %: ", one(t.node as u64))?;
+    say_seen(rt, look(nodes, t.node, read(&s[from..e])), base)
 }
 
 // Where the fault is that the check found, as the refusal's second line.
-pub fn say_where(name: &[u8], nodes: &[u64], s: &[u8], line: u64, h: Head) {
+pub fn say_where(
+    rt: &impl Print,
+    name: &[u8],
+    nodes: &[u64],
+    s: &[u8],
+    line: u64,
+    h: Head,
+) -> io::Result<()> {
     let base = base_of(h);
-    say(b"  ");
+    say(rt, b"  ")?;
     if base < h.dest {
-        say_at(name, h.dest_line);
-        tell(
+        say_at(rt, name, h.dest_line)?;
+        return tell(
+            rt,
             b"destination r% is not below the base, %\n",
             two(h.dest - 1, base),
         );
-        return;
     }
     let t = first_at_fault(nodes, s, line, base);
     if t.node < nodes.len() / 4 {
-        say_spot(name, nodes, s, t, base);
-        return;
+        return say_spot(rt, name, nodes, s, t, base);
     }
-    say_at(name, h.node_line);
+    say_at(rt, name, h.node_line)?;
     tell(
+        rt,
         b"the last node does not take in all nodes before it\n",
         none(),
-    );
+    )
 }

@@ -2,6 +2,7 @@
 ghost use Rattle.std.specs.Prelude.{◌<◌, ◌≤◌};
 
 use crate::{none, say, say_number, tell_line, two};
+use std::io;
 
 // Twice p, while that is at most 2^60.
 fn twice(p: u64) -> u64
@@ -48,7 +49,7 @@ fn left_over(n: u64, p: u64) -> u64
 }
 
 // The digits of rest / p after the point, at most k of them.
-fn say_fraction(rest: u64, p: u64, k: u64)
+fn say_fraction(rt: &impl Print, rest: u64, p: u64, k: u64) -> io::Result<()>
     requires p_nonzero { 0 < p }
     requires p_bound { p ≤ 1152921504606846976 }
     requires rest_lt_p { rest < p }
@@ -56,27 +57,29 @@ fn say_fraction(rest: u64, p: u64, k: u64)
     let mut r = rest;
     for _ in 0..k {
         if r == 0 {
-            return;
+            return Ok(());
         }
-        say_number(r * 10 / p % 10);
+        say_number(rt, r * 10 / p % 10)?;
         r = left_over(r * 10, p);
     }
+    Ok(())
 }
 
 // m / 2^k, for k up to 60.
-fn say_ratio(m: u64, k: u64) {
+fn say_ratio(rt: &impl Print, m: u64, k: u64) -> io::Result<()> {
     let p = power(k);
-    say_number(m / p);
+    say_number(rt, m / p)?;
     let rest = left_over(m, p);
     if rest != 0 {
-        say(b".");
-        say_fraction(rest, p, k);
+        say(rt, b".")?;
+        say_fraction(rt, rest, p, k)?;
     }
+    Ok(())
 }
 
 // A number times a power of two, whose exponent is below 0 or not.
-fn say_product(below: u64, m: u64, k: u64) {
-    tell_line(b"% * 2^%\n% * 2^-%", below, two(m, k));
+fn say_product(rt: &impl Print, below: u64, m: u64, k: u64) -> io::Result<()> {
+    tell_line(rt, b"% * 2^%\n% * 2^-%", below, two(m, k))
 }
 
 fn least(a: u64, b: u64) -> u64
@@ -94,73 +97,66 @@ fn wide(n: u32) -> u64 {
 
 // How many factors of two m has.
 fn twos(m: u64) -> u64 {
-    wide(u64::trailing_zeros(m))
+    wide(m.trailing_zeros())
 }
 
 // m / 2^k, without the factors of two that both have. Past 60 digits after the point a decimal is of no use.
-fn say_small(m: u64, k: u64) {
+fn say_small(rt: &impl Print, m: u64, k: u64) -> io::Result<()> {
     let t = least(twos(m), k);
     let n = m / power(t);
     if k - t <= 60 {
-        say_ratio(n, k - t);
-        return;
+        return say_ratio(rt, n, k - t);
     }
-    say_product(1, n, k - t);
+    say_product(rt, 1, n, k - t)
 }
 
 // m * 2^k, for m of 53 binary digits; from 2^64 on as a product.
-fn say_large(m: u64, k: u64)
+fn say_large(rt: &impl Print, m: u64, k: u64) -> io::Result<()>
     requires { k ≤ 1024 }
 {
     let t = least(twos(m), 60);
     if k <= 11 {
-        say_number(doubled(m, k));
-        return;
+        return say_number(rt, doubled(m, k));
     }
-    say_product(0, m / power(t), k + t);
+    say_product(rt, 0, m / power(t), k + t)
 }
 
 // m * 2^(e - 1075), for m of 53 binary digits.
-fn say_scaled(m: u64, e: u64)
+fn say_scaled(rt: &impl Print, m: u64, e: u64) -> io::Result<()>
     requires { e ≤ 2047 }
 {
     if e >= 1075 {
-        say_large(m, e - 1075);
-        return;
+        return say_large(rt, m, e - 1075);
     }
-    say_small(m, 1075 - e);
+    say_small(rt, m, 1075 - e)
 }
 
 // An infinity or a NaN, by its fraction.
-fn say_special(f: u64) {
+fn say_special(rt: &impl Print, f: u64) -> io::Result<()> {
     let n = if f == 0 { 0 } else { 1 };
-    tell_line(b"infinity\nNaN", n, none());
+    tell_line(rt, b"infinity\nNaN", n, none())
 }
 
-fn say_magnitude(q: u64) {
+fn say_magnitude(rt: &impl Print, q: u64) -> io::Result<()> {
     let e = q / 4503599627370496;
     let f = q % 4503599627370496;
     if q == 0 {
-        say_number(0);
-        return;
+        return say_number(rt, 0);
     }
     if e >= 2047 {
-        say_special(f);
-        return;
+        return say_special(rt, f);
     }
     if e == 0 {
-        say_scaled(f, 1);
-        return;
+        return say_scaled(rt, f, 1);
     }
-    say_scaled(f + 4503599627370496, e);
+    say_scaled(rt, f + 4503599627370496, e)
 }
 
 // The float of a pattern.
-pub fn say_float(p: u64) {
+pub fn say_float(rt: &impl Print, p: u64) -> io::Result<()> {
     if p < 9223372036854775808 {
-        say_magnitude(p);
-        return;
+        return say_magnitude(rt, p);
     }
-    say(b"-");
-    say_magnitude(p - 9223372036854775808);
+    say(rt, b"-")?;
+    say_magnitude(rt, p - 9223372036854775808)
 }

@@ -6,6 +6,7 @@ mod expansion;
 ghost use Rattle.std.specs.Prelude.{◌≤◌, length};
 
 pub use crate::expansion::say_float;
+use std::io;
 
 // The numbers that stand in a text, in order, and the position from which a branch goes.
 #[derive(Clone, Copy)]
@@ -64,50 +65,60 @@ struct Part {
     to: usize,
 }
 
+// The first position from `at` on where a table has the byte; its end where there is none.
+fn end_of(table: &[u8], at: usize, by: u8) -> usize
+    requires { at ≤ length table.now }
+    ensures lower_bound { at ≤ result }
+    ensures upper_bound { result ≤ length table.now }
+{
+    for i in at..table.len() {
+        if table[i] == by {
+            return i;
+        }
+    }
+    table.len()
+}
+
 // The n-th text of a table whose texts stand apart by one byte, counted from 0; an empty part at the end where it has fewer.
 fn text_at(table: &[u8], by: u8, n: u64) -> Part
     ensures from_le_to { result.from ≤ result.to }
     ensures to_in_bounds { result.to ≤ length table.now }
 {
     let mut at = 0;
-    let mut left = n;
-    while left > 0 {
-        let e = bytes::scan::find(table, at, table.len(), by);
+    for _ in 0..n {
+        let e = end_of(table, at, by);
         if e == table.len() {
             return Part { from: e, to: e };
         }
         at = e + 1;
-        left -= 1;
     }
     Part {
         from: at,
-        to: bytes::scan::find(table, at, table.len(), by),
+        to: end_of(table, at, by),
     }
 }
 
-// A failed write is not reported here: the command checks what arrives.
-pub fn say(words: &[u8]) {
-    let _ = io::write_all(1, words);
+// Bytes, which need not be text.
+pub fn say(rt: &impl Print, words: &[u8]) -> io::Result<()> {
+    rt.write_all(words)
 }
 
-pub fn say_number(n: u64) {
-    let _ = io::print_decimal(1, n);
+pub fn say_number(rt: &impl Print, n: u64) -> io::Result<()> {
+    print!(rt; "{n}")
 }
 
 // 0x and sixteen digits.
-fn say_bits(n: u64) {
-    say(b"0x");
-    let _ = io::print_hex(1, n, 16);
+fn say_bits(rt: &impl Print, n: u64) -> io::Result<()> {
+    print!(rt; "0x{n:016x}")
 }
 
 // The two's complement p as a decimal.
-fn say_int(p: u64) {
+fn say_int(rt: &impl Print, p: u64) -> io::Result<()> {
     if p < 9223372036854775808 {
-        say_number(p);
-        return;
+        return say_number(rt, p);
     }
-    say(b"-");
-    say_number(18446744073709551615 - p + 1);
+    say(rt, b"-")?;
+    say_number(rt, 18446744073709551615 - p + 1)
 }
 
 // How many digits a number has, less one, but at most three.
@@ -124,9 +135,9 @@ fn places(n: u64) -> u64 {
 }
 
 // A number in at least four places.
-fn say_place(n: u64) {
-    say_word(b"   |  | |", b'|', places(n));
-    say_number(n);
+fn say_place(rt: &impl Print, n: u64) -> io::Result<()> {
+    say_word(rt, b"   |  | |", b'|', places(n))?;
+    say_number(rt, n)
 }
 
 // The quarter of a two's complement, rounded toward minus infinity.
@@ -138,35 +149,35 @@ fn quarter(p: u64) -> u64 {
 }
 
 // The value of raw bits: four times an Int, or 1, 5 and 9.
-fn say_raw(p: u64) {
+fn say_raw(rt: &impl Print, p: u64) -> io::Result<()> {
     if p % 4 == 1 {
-        say_word(b"nil false true", b' ', p / 4);
-        return;
+        return say_word(rt, b"nil false true", b' ', p / 4);
     }
-    say(b"int ");
-    say_int(quarter(p));
+    say(rt, b"int ")?;
+    say_int(rt, quarter(p))
 }
 
 // Where a branch goes: its position, one more, and the displacement, whose two's complement is p.
-fn say_target(at: u64, p: u64) {
+fn say_target(rt: &impl Print, at: u64, p: u64) -> io::Result<()> {
     if p < 9223372036854775808 {
         if at < 9223372036854775807 {
-            say_number(at + p + 1);
+            return say_number(rt, at + p + 1);
         }
-        return;
+        return Ok(());
     }
     let back = 18446744073709551615 - p;
     if back <= at {
-        say_number(at - back);
+        return say_number(rt, at - back);
     }
+    Ok(())
 }
 
 // The n-th word of a table of names, which stand apart by one byte.
-fn say_word(table: &[u8], by: u8, n: u64) {
+fn say_word(rt: &impl Print, table: &[u8], by: u8, n: u64) -> io::Result<()> {
     let w = text_at(table, by, n);
     let from = w.from;
     let to = w.to;
-    say(&table[from..to]);
+    say(rt, &table[from..to])
 }
 
 // Whether a byte stands for a number.
@@ -178,14 +189,14 @@ fn is_mark(b: u8) -> bool {
 }
 
 // A number by its mark: plain, signed, a pattern, in four places, the target of a branch, or raw bits.
-fn say_marked(b: u8, x: u64, at: u64) {
+fn say_marked(rt: &impl Print, b: u8, x: u64, at: u64) -> io::Result<()> {
     match b {
-        b'%' => say_number(x),
-        b'~' => say_int(x),
-        b'#' => say_bits(x),
-        b'&' => say_place(x),
-        b'@' => say_target(at, x),
-        _ => say_raw(x),
+        b'%' => say_number(rt, x),
+        b'~' => say_int(rt, x),
+        b'#' => say_bits(rt, x),
+        b'&' => say_place(rt, x),
+        b'@' => say_target(rt, at, x),
+        _ => say_raw(rt, x),
     }
 }
 
@@ -206,27 +217,28 @@ fn mark_from(t: &[u8], from: usize) -> usize
 }
 
 // A text, with the numbers in place of its marks.
-pub fn tell(t: &[u8], n: Numbers) {
+pub fn tell(rt: &impl Print, t: &[u8], n: Numbers) -> io::Result<()> {
     let mut left = n;
     let mut at = 0;
     while at < t.len() {
         let to = mark_from(t, at);
-        say(&t[at..to]);
+        say(rt, &t[at..to])?;
         at = to;
         if to < t.len() {
-            say_marked(t[to], left.a, left.at);
+            say_marked(rt, t[to], left.a, left.at)?;
             left = rest(left);
             at = to + 1;
         }
     }
+    Ok(())
 }
 
 // The n-th line of a table of texts.
-pub fn tell_line(table: &[u8], n: u64, numbers: Numbers) {
+pub fn tell_line(rt: &impl Print, table: &[u8], n: u64, numbers: Numbers) -> io::Result<()> {
     let w = text_at(table, 10, n);
     let from = w.from;
     let to = w.to;
-    tell(&table[from..to], numbers);
+    tell(rt, &table[from..to], numbers)
 }
 
 // The line of a value's text.
@@ -241,14 +253,16 @@ fn value_line(kind: u8, payload: u64) -> u64 {
 }
 
 // A value, as a pair of kind and payload.
-pub fn say_value(kind: u8, payload: u64) {
+pub fn say_value(rt: &impl Print, kind: u8, payload: u64) -> io::Result<()> {
     tell_line(
+        rt,
         b"nil\nfalse\ntrue\nint ~\nfloat # (",
         value_line(kind, payload),
         one(payload),
-    );
+    )?;
     if 2 < kind {
-        say_float(payload);
-        say(b")");
+        say_float(rt, payload)?;
+        say(rt, b")")?;
     }
+    Ok(())
 }

@@ -1,15 +1,13 @@
 -- A line by its fields: one law for each answer of the readers.
-use mathlib.Core.Path.{◌≡◌, refl, sym, ◌∙◌, ap}
-use mathlib.Core.Bool.{Bool, true, false}
-use mathlib.Core.List.{List, [], ◌∷◌, map}
-use Prim.Native.Nat.{ℕ, suc, ◌+◌, ◌-◌, ◌≤◌, ◌<◌}
+use mathlib.Core.Path.{◌≡◌, refl, sym, ◌∙◌}
+use mathlib.Core.List.{List, [], map}
+use Prim.Native.Nat.{ℕ, ◌+◌, ◌≤◌, ◌<◌}
 use native.Mathlib.Omega.{arith}
-use lib.Dec.{leb, ltb, eqb}
-use lib.ListN.{length, get_or, take}
+use lib.ListN.{length, get_or, take, drop}
 use lib.Seq.{length-take-le, take-length}
 use borrow.Author.Rules.{rules}
 use borrow.Author.Tests.{lt-ltb, le-ltb, le-leb, lt-leb, eq-eqb, ne_eqb}
-use Rattle.bytes.specs.Bytes.{index_of, slice}
+use Rattle.text.specs.Bytes.{index_of}
 use Rattle.text.specs.Fields.{bytes, is_blank, push, opened, fields_of, place_of}
 use Rattle.text.specs.Numeral.{unsigned_of, int_of}
 use Rattle.text.specs.Decimal.{float_of}
@@ -20,7 +18,7 @@ use Rattle.reader.specs.Line.{first_words, value_words, read_of, real_of, payloa
 use Rattle.reader.specs.declared.Line.{Line}
 use Rattle.reader.specs.declared.Number.{Number}
 use Rattle.reader.specs.declared.Trouble.{Trouble}
-use Rattle.reader.specs.declared.Trouble.TheVariants.{NoSuchWord, NoNumber, TooLarge, TooLong, Between, Missing, TooMuch, HalfGiven, NoValue}
+use Rattle.reader.specs.declared.Trouble.TheVariants.{NoSuchWord, TooLarge, Missing, TooMuch, HalfGiven, NoValue}
 
 -- ---- numbers
 
@@ -262,8 +260,8 @@ pub ruleset firsts = (kind-is, kind-none, kind-large, place_at, place_none, bare
 
 -- ---- the comment: `e` is where the first # stands
 
-pub line-is : (s : List ℕ) {e : ℕ} {q : Line} → e ≡ 0 + index_of 35 (slice 0 (length s) s) → q ≡ fields_line (fields_of (take e s)) → q ≡ line_of s
-unfolding line_of slice
-line-is s {e} h f = let k : index_of 35 (take (length s) s) ≡ index_of 35 s = rw (take-length s) in let z : e ≡ index_of 35 s = omega arith in f ∙ rw z
+pub line-is : (s : List ℕ) {e : ℕ} {q : Line} → e ≡ 0 + index_of 35 (drop 0 s) → q ≡ fields_line (fields_of (take e s)) → q ≡ line_of s
+unfolding line_of
+line-is s {e} h f = let k : index_of 35 (drop 0 s) ≡ index_of 35 s = refl in let z : e ≡ index_of 35 s = omega arith in f ∙ rw z
 
 pub ruleset lines = (line-is, length-take-le, rules)

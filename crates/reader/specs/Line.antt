@@ -1,7 +1,7 @@
 -- What a line of an expression's text says. A line is a list of bytes; from a # (byte 35) on it is a comment. What is left is read by its fields.
-use Rattle.std.specs.Prelude.{ℕ, ◌+◌, Bool, true, false, ◌&&◌, cond, List, [], ◌∷◌, map, leb, ltb, eqb, length, get_or, take}
+use Rattle.std.specs.Prelude.{ℕ, ◌+◌, ◌&&◌, cond, List, [], ◌∷◌, map, leb, ltb, eqb, length, get_or, take}
 use Prim.Native.String.{String}
-use Rattle.bytes.specs.Bytes.{index_of}
+use Rattle.text.specs.Bytes.{index_of}
 use Rattle.text.specs.Fields.{bytes, fields_of, place_of}
 use Rattle.text.specs.Numeral.{unsigned_of, int_of}
 use Rattle.text.specs.Decimal.{float_of}
@@ -10,7 +10,6 @@ use Rattle.text.specs.declared.fields.Place.{Place}
 use Rattle.text.specs.declared.numeral.Read.{Read}
 use Rattle.reader.specs.declared.Line.{Line}
 use Rattle.reader.specs.declared.Number.{Number}
-use Rattle.reader.specs.declared.Trouble.{Trouble}
 use Rattle.reader.specs.declared.Trouble.TheVariants.{NoSuchWord, NoNumber, TooLarge, TooLong, Between, Missing, TooMuch, HalfGiven, NoValue}
 
 -- ---- words

@@ -4,6 +4,7 @@ ghost use Rattle.std.specs.Prelude.{◌≡◌, ◌+◌, ◌<◌, ◌≤◌, min,
 
 use crate::head::NODES;
 use crate::{Line, read};
+use text::scan::find;
 
 // The position after a line that ends at e.
 pub fn past(s: &[u8], e: usize) -> usize
@@ -47,7 +48,7 @@ pub fn put_nodes(s: &[u8], nodes: &mut [u64]) {
     let mut n = 0;
     let mut at = 0;
     while at < s.len() {
-        let e = bytes::scan::find(s, at, s.len(), b'\n');
+        let e = find(s, at, b'\n');
         n = put_node(nodes, n, read(&s[at..e]));
         at = past(s, e);
     }
@@ -87,7 +88,7 @@ pub fn put_spans(s: &[u8], nodes: &mut [u64]) {
     let mut n = 0;
     let mut at = 0;
     while at < s.len() {
-        let e = bytes::scan::find(s, at, s.len(), b'\n');
+        let e = find(s, at, b'\n');
         n = put_given(nodes, n, read(&s[at..e]));
         at = past(s, e);
     }
@@ -116,7 +117,7 @@ pub fn put_values(s: &[u8], kinds: &mut [u8], payloads: &mut [u64]) {
     let mut n = 0;
     let mut at = 0;
     while at < s.len() {
-        let e = bytes::scan::find(s, at, s.len(), b'\n');
+        let e = find(s, at, b'\n');
         n = put_value(kinds, payloads, n, read(&s[at..e]));
         at = past(s, e);
     }
@@ -138,7 +139,7 @@ pub fn end_of(s: &[u8], from: usize) -> usize
 {
     let mut at = from;
     while at < s.len() {
-        let e = bytes::scan::find(s, at, s.len(), b'\n');
+        let e = find(s, at, b'\n');
         let ended = is_end(&s[at..e]);
         at = past(s, e);
         if ended {

@@ -15,6 +15,7 @@ ghost use Rattle.reader.specs.Line.{word_of, kind_of, first_of, fields_line, lin
 use text::decimal::{Real, float};
 use text::fields::{Place, count, nth, place_of};
 use text::numeral::{Read, int, unsigned};
+use text::scan::find;
 
 // Why a line cannot be read.
 #[derive(Clone, Copy)]
@@ -314,7 +315,7 @@ fn read_bare(s: &[u8]) -> Line
 pub fn read(s: &[u8]) -> Line
     ensures { result ≡ line_of s.now }
 {
-    let e = bytes::scan::find(s, 0, s.len(), b'#');
+    let e = find(s, 0, b'#');
     read_bare(&s[..e])
 }
 
@@ -322,7 +323,7 @@ pub fn read(s: &[u8]) -> Line
 pub fn title_from(s: &[u8]) -> usize
     ensures { result ≤ length s.now }
 {
-    let e = bytes::scan::find(s, 0, s.len(), b'#');
+    let e = find(s, 0, b'#');
     let w = nth(&s[..e], 0);
     w.to
 }

@@ -3,6 +3,7 @@ ghost use Rattle.std.specs.Prelude.{◌≤◌, length};
 
 use crate::gather::past;
 use crate::{Line, read};
+use text::scan::find;
 
 // What is at fault at a node; 0 where nothing is.
 pub const KIND: u64 = 1;
@@ -178,7 +179,7 @@ pub fn first_at_fault(nodes: &[u64], s: &[u8], line: u64, base: u64) -> Spot
         if from == s.len() {
             return t;
         }
-        let e = bytes::scan::find(s, from, s.len(), b'\n');
+        let e = find(s, from, b'\n');
         let l = read(&s[from..e]);
         if is_at_fault(nodes, t.node, l, base) {
             return t;

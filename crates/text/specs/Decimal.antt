@@ -1,8 +1,8 @@
 -- A float as text. A text is a list of bytes; a finite float is a whole number of steps of 2^-1074 (float's specs/Bits).
 use Rattle.std.specs.Prelude.{ℕ, suc, ◌+◌, ◌-◌, ◌*◌, ◌^◌, Bool, true, false, ◌&&◌, cond, List, [], ◌∷◌, leb, ltb, eqb, length, get_or, take, drop}
-use Rattle.bytes.specs.Bytes.{index_of}
 use Rattle.float.specs.Bits.{units, infinity, quiet}
 use Rattle.float.specs.Float.{rounded, with_sign_bit}
+use Rattle.text.specs.Bytes.{index_of}
 use Rattle.text.specs.Fields.{bytes, place_of}
 use Rattle.text.specs.Numeral.{nat_of, is_hex}
 use Rattle.text.specs.declared.decimal.Real.{Real}

@@ -1,4 +1,5 @@
 -- What the contracts of `text` cite.
+pub mod Bytes
 pub mod Fields
 pub mod Scan
 pub mod Numeral

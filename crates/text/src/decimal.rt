@@ -7,6 +7,7 @@ ghost use Rattle.text.specs.Doubling.{Doubled};
 
 use crate::fields::{Place, place_of};
 use crate::numeral::{Read, digits, digits_from, is_hex};
+use crate::scan::find;
 
 // What a text says: a float's pattern; that it lies between two floats, with the pattern of the one nearer to zero, which the next pattern follows;
 // or why it is no float.
@@ -151,7 +152,8 @@ fn exactly(neg: bool, whole: u64, f: &[u8]) -> Real
         return wide(neg, whole, f);
     }
     let mut room = [0u8; DIGITS];
-    let k = bytes::copy(f, &mut room);
+    let k = f.len();
+    room[..k].copy_from_slice(f);
     narrow(neg, whole, &mut room[..k])
 }
 
@@ -177,7 +179,7 @@ fn parts(neg: bool, whole: Read, f: &[u8]) -> Real
 fn plain(neg: bool, s: &[u8]) -> Real
     ensures { result ≡ plain_of neg s.now }
 {
-    let dot = bytes::scan::find(s, 0, s.len(), b'.');
+    let dot = find(s, 0, b'.');
     if dot == s.len() {
         return parts(neg, digits(10, s), b"");
     }

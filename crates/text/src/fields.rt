@@ -103,7 +103,7 @@ pub fn place_of(s: &[u8], table: &[u8]) -> Place
         if from == to {
             return Place::Nowhere;
         }
-        if check::same(&table[from..to], s) {
+        if &table[from..to] == s {
             return Place::At(n);
         }
         at = to;

@@ -1,6 +1,6 @@
 -- Digits of any number: the tests, and doubling from the right.
 use mathlib.Core.Path.{◌≡◌, refl, sym, ◌∙◌, ap}
-use mathlib.Core.Bool.{Bool, true, false, ◌&&◌, cond}
+use mathlib.Core.Bool.{Bool, true, false, ◌&&◌}
 use mathlib.Core.List.{List, [], ◌∷◌}
 use Prim.Native.Nat.{ℕ, zero, suc, ◌+◌, ◌-◌, ◌*◌, ◌/◌, ◌%◌, ◌^◌, ◌≤◌, ◌<◌}
 use native.Mathlib.Nat.{add-mul, mul_assoc, mul_right_comm, mul-le-mul_right, one-mul, one-le-pow, pow-suc, zero-mul}
@@ -10,7 +10,7 @@ use lib.Dec.{leb, ltb, eqb}
 use lib.ListN.{length, get_or, drop, set, length-drop, length-set, drop_of_length-le}
 use lib.Seq.{drop-cons, drop-length, drop-set-lt, get_or-set_same, get_or-set_other, lt-length-set}
 use borrow.Author.Rules.{rules}
-use borrow.Author.Tests.{lt-ltb, le-ltb, le-leb, lt-leb, eq-eqb, ne_eqb, leb-true, ltb-true}
+use borrow.Author.Tests.{lt-ltb, le-leb, lt-leb, ne_eqb, leb-true, ltb-true}
 use Rattle.text.specs.Decimal.{is_digit, all_digits, value_of}
 use Rattle.text.specs.Doubling.{Doubled}
 

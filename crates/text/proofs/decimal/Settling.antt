@@ -1,12 +1,12 @@
 -- A decimal beside the floats: between which two patterns it lies, and what that settles.
 use mathlib.Core.Path.{◌≡◌, refl, sym, ◌∙◌, ap}
 use mathlib.Core.Bool.{Bool, true, false, cond}
-use Prim.Native.Nat.{ℕ, zero, suc, ◌+◌, ◌-◌, ◌*◌, ◌/◌, ◌%◌, ◌^◌, ◌≤◌, ◌<◌}
-use native.Mathlib.Nat.{add-mul, mul_assoc, mul_comm, mul_right_comm, mul-le-mul_right, mul-lt-mul_of_pos_right, one-mul, mul-one, one-le-pow, pow-suc, eq-zero-or-pos}
+use Prim.Native.Nat.{ℕ, suc, ◌+◌, ◌-◌, ◌*◌, ◌/◌, ◌%◌, ◌^◌, ◌≤◌, ◌<◌}
+use native.Mathlib.Nat.{add-mul, mul_assoc, mul_right_comm, mul-le-mul_right, mul-lt-mul_of_pos_right, one-mul, mul-one, one-le-pow, pow-suc, eq-zero-or-pos}
 use native.Mathlib.Decide.{dec_lt}
 use native.Mathlib.Omega.{arith}
 use mathlib.Core.Logic.{inl, inr}
-use lib.Dec.{ltb, eqb}
+use lib.Dec.{eqb}
 use lib.Pow.{pow_pos, pow_mono, pow-add}
 use borrow.Author.Rules.{rules}
 use borrow.Author.Tests.{lt-ltb, le-ltb, eq-eqb, ne_eqb, eqb-true, eqb-false}
@@ -14,7 +14,6 @@ use Rattle.float.specs.Bits.{units, infinity}
 use Rattle.float.specs.Float.{rounded, with_sign_bit, Nearest}
 use Rattle.float.proofs.Nearest.{rounded-nearest, nearest-unique, units_mono, units-strict}
 use Rattle.text.specs.Decimal.{settled, decimal_of}
-use Rattle.text.specs.declared.decimal.Real.{Real}
 use Rattle.text.specs.declared.decimal.Real.TheVariants.{Is, Between}
 
 -- ---- the float of a number of steps between two patterns

@@ -1,21 +1,20 @@
 -- The text of a float, by its parts: one law for each answer of the readers.
-use mathlib.Core.Path.{◌≡◌, refl, sym, ◌∙◌, ap}
-use mathlib.Core.Bool.{Bool, true, false, cond}
-use mathlib.Core.List.{List, [], ◌∷◌, ◌++◌}
-use Prim.Native.Nat.{ℕ, zero, suc, ◌+◌, ◌-◌, ◌*◌, ◌^◌, ◌≤◌, ◌<◌}
+use mathlib.Core.Path.{◌≡◌, refl, sym, ◌∙◌}
+use mathlib.Core.Bool.{Bool, true, false}
+use mathlib.Core.List.{List, [], ◌∷◌}
+use Prim.Native.Nat.{ℕ, suc, ◌+◌, ◌-◌, ◌*◌, ◌^◌, ◌≤◌, ◌<◌}
 use native.Mathlib.Numerals.{add-one}
 use native.Mathlib.Omega.{arith}
-use lib.Dec.{leb, ltb, eqb}
 use lib.ListN.{length, get_or, take, drop, length-drop, drop_of_length-le}
 use lib.Seq.{drop-cons, take_all, take-length, take-append_seam, length-take-le}
 use borrow.Author.Rules.{rules}
 use borrow.Author.Tests.{lt-ltb, le-ltb, le-leb, lt-leb, eq-eqb, ne_eqb}
-use Rattle.bytes.specs.Bytes.{index_of, slice}
+use Rattle.text.specs.Bytes.{index_of}
 use Rattle.text.specs.Fields.{bytes, is_blank, push, opened, fields_of, place_of}
 use Rattle.text.specs.Numeral.{nat_of, is_hex}
 use Rattle.text.specs.Decimal.{all_digits, value_of, decimal_of, parts_of, point_of, plain_of, signed_of, pattern_of, named_of, float_of}
 use Rattle.text.specs.declared.decimal.Real.{Real}
-use Rattle.text.specs.declared.decimal.Real.TheVariants.{Is, Between, NoNumber, TooLarge, TooLong}
+use Rattle.text.specs.declared.decimal.Real.TheVariants.{Is, NoNumber, TooLarge, TooLong}
 use Rattle.text.specs.declared.fields.Place.{Place}
 use Rattle.text.specs.declared.numeral.Read.{Read}
 
@@ -34,11 +33,6 @@ unfolding pattern_of
 pattern-large e = rw e
 
 pub ruleset patterns = (pattern-is, pattern-none, pattern-large, rules)
-
--- ---- the copy of the digits
-
-pub copied : (f rest : List ℕ) {k : ℕ} {last : List ℕ} → k ≡ length f → last ≡ take (length f) f ++ rest → take k last ≡ f
-copied f rest {k} {last} h e = rw (h, e, take-length f) (take-append_seam f rest)
 
 -- ---- a whole part and the digits after the point
 
@@ -71,10 +65,9 @@ pub ruleset pieces = (parts_none, parts-large, parts-not, parts-long, parts_is, 
 
 -- ---- the point: `dot` is where the first one stands
 
-module _ (neg : Bool) (s : List ℕ) {dot : ℕ} (found : dot ≡ 0 + index_of 46 (slice 0 (length s) s)) where
+module _ (neg : Bool) (s : List ℕ) {dot : ℕ} (found : dot ≡ 0 + index_of 46 (drop 0 s)) where
   dot-is : index_of 46 s ≡ dot
-  unfolding slice
-  dot-is = let e : index_of 46 (take (length s) s) ≡ index_of 46 s = rw (take-length s) in omega arith
+  dot-is = let e : index_of 46 (drop 0 s) ≡ index_of 46 s = refl in omega arith
 
   pub plain-none : {r : Read} {q : Real} → dot ≡ length s → r ≡ nat_of 10 s → q ≡ parts_of neg r [] → q ≡ plain_of neg s
   unfolding plain_of

@@ -1,17 +1,18 @@
 -- Fields found by position: where a search for a blank ends, and what the fields from a position on are.
 use mathlib.Core.Path.{◌≡◌, refl, sym, ◌∙◌, ap}
-use mathlib.Core.Bool.{Bool, true, false, beq, cond, ◌&&◌}
+use mathlib.Core.Bool.{Bool, true, false, beq}
 use mathlib.Core.List.{List, [], ◌∷◌}
-use Prim.Native.Nat.{ℕ, zero, suc, ◌+◌, ◌-◌, ◌≤◌, ◌<◌}
+use Prim.Native.Nat.{ℕ, suc, ◌+◌, ◌-◌, ◌≤◌, ◌<◌}
 use native.Mathlib.Decide.{dec_lt}
 use native.Mathlib.Numerals.{add-one}
 use native.Mathlib.Omega.{arith}
 use lib.Dec.{eqb, ltb}
 use lib.ListN.{length, get_or, take, drop, length-drop, drop_of_length-le}
+use lib.Pointwise.{pointwise}
 use lib.Seq.{drop-cons, drop-drop, get_or-drop}
 use borrow.Author.Rules.{rules}
-use borrow.Author.Tests.{eq-eqb, ne_eqb, eqb-true, lt-ltb, le-ltb, ltb-true, ltb-false}
-use Rattle.text.specs.Fields.{is_blank, push, opened, fields_of, same, place_from, place_of}
+use borrow.Author.Tests.{eq-eqb, ne_eqb, lt-ltb, le-ltb, ltb-true, ltb-false}
+use Rattle.text.specs.Fields.{is_blank, push, opened, fields_of, same, place_from}
 use Rattle.text.specs.Scan.{lead, onward}
 use Rattle.text.specs.declared.fields.Place.{Place}
 use Rattle.text.specs.declared.fields.Place.TheVariants.{At, Nowhere}
@@ -122,26 +123,13 @@ pub ruleset nexts = (next-is, rules)
 
 -- ---- words that are the same
 
-same_refl : (w : List ℕ) → same w w ≡ true
-unfolding same
-same_refl [] = refl
-same_refl (b ∷ w) = rw (eq-eqb b b refl) (same_refl w)
-
-both : (t u : Bool) → (t && u) ≡ true → (t ≡ true) × (u ≡ true)
-both true u h = (refl, h)
-both false u h = absurd (let z : ◌≡◌ {A = ℕ} 0 1 = cc in omega arith)
-
-same-is : (x w : List ℕ) → same x w ≡ true → x ≡ w
-unfolding same
-same-is [] [] h = refl
-same-is [] (b ∷ w) h = absurd (let z : ◌≡◌ {A = ℕ} 0 1 = cc in omega arith)
-same-is (a ∷ x) [] h = absurd (let z : ◌≡◌ {A = ℕ} 0 1 = cc in omega arith)
-same-is (a ∷ x) (b ∷ w) h = let k = both (eqb a b) (same x w) h in rw (eqb-true a b k.0, same-is x w k.1)
-
 -- what a comparison answers is what the definition says
-same_by : (x w : List ℕ) (t : Bool) → (t ≡ true → x ≡ w) → (x ≡ w → t ≡ true) → same x w ≡ t
-same_by x w true f g = rw (f refl) (same_refl w)
-same_by x w false f g = either (same x w) (λ h. absurd (let z : false ≡ true = g (same-is x w h) in let y : ◌≡◌ {A = ℕ} 0 1 = cc in omega arith)) (λ h. h)
+same-is : (x w : List ℕ) → same x w ≡ pointwise eqb x w
+unfolding same
+same-is [] [] = refl
+same-is [] (b ∷ w) = refl
+same-is (a ∷ x) [] = refl
+same-is (a ∷ x) (b ∷ w) = rw (same-is x w) refl
 
 -- ---- the fields that are left, after so many. `at` is the place from which the fields go on
 
@@ -184,14 +172,14 @@ module _ (s : List ℕ) (at from to : ℕ) (e : fields_of (drop at s) ≡ onward
     unfolding place_from
     place_none h = rw (none h) at inv
 
-    module _ (h : from ≡ to → ⊥) (l : from ≤ to) (t : Bool) (f : t ≡ true → take (to - from) (drop from s) ≡ w) (g : take (to - from) (drop from s) ≡ w → t ≡ true) where
+    module _ (h : from ≡ to → ⊥) (l : from ≤ to) (t : Bool) (f : t ≡ pointwise eqb (take (to - from) (drop from s)) w) where
       pub place_here : t ≡ true → At n ≡ q
       unfolding place_from
-      place_here z = rw (one h l, same_by (take (to - from) (drop from s)) w t f g, z) at inv
+      place_here z = rw (one h l, same-is (take (to - from) (drop from s)) w, ← f, z) at inv
 
       pub place-more : t ≡ false → place_from (n + 1) w (fields_of (drop to s)) ≡ q
       unfolding place_from
-      place-more z = rw (one h l, same_by (take (to - from) (drop from s)) w t f g, z) at inv
+      place-more z = rw (one h l, same-is (take (to - from) (drop from s)) w, ← f, z) at inv
 
 pub ruleset nths = (nth-none, nth-more, nth-done, rules)
 

@@ -1,0 +1,2 @@
+-- The laws that the proof of `scan` cites.
+pub mod Finding

@@ -1,0 +1,18 @@
+// A byte in a text.
+ghost use Rattle.std.specs.Prelude.{◌≡◌, ◌+◌, ◌≤◌, length, drop};
+ghost use Rattle.text.specs.Bytes.{index_of};
+
+// The first position from `from` on where b stands; the end where there is none.
+pub fn find(s: &[u8], from: usize, b: u8) -> usize
+    requires { from ≤ length s.now }
+    ensures value { result ≡ from + index_of b (drop from s.now) }
+    ensures lower_bound { from ≤ result }
+    ensures upper_bound { result ≤ length s.now }
+{
+    for i in from..s.len() {
+        if s[i] == b {
+            return i;
+        }
+    }
+    s.len()
+}
