@@ -16,9 +16,8 @@ VERSION := $(shell awk '$$2 == "VOSEMAQE_VERSION" { v = $$3; print int(v / 10000
 
 all: $(ARCHIVE)
 
-# rt itself sees what has changed since the last proof
 target/staticlib/libvosemaqe.a: FORCE
-	rt staticlib vosemaqe
+	tools/build.sh
 
 install: $(ARCHIVE)
 	install -d $(DESTDIR)$(includedir) $(DESTDIR)$(libdir)/pkgconfig $(DESTDIR)$(docdir) $(DESTDIR)$(rustdir)/src

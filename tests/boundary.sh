@@ -5,7 +5,7 @@
 # itself runs 300,000), and the stack that the functions touch. Beside the archive, the routines that it does not have (tests/entries.sh).
 set -euo pipefail
 cd "$(dirname "$0")/.."
-[ $# -gt 1 ] || rt staticlib vosemaqe >/dev/null
+[ $# -gt 1 ] || tools/build.sh
 archive=$(realpath "${2:-target/staticlib/libvosemaqe.a}")
 tests/entries.sh
 tests/c/run.sh "$archive"

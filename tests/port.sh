@@ -49,7 +49,7 @@ if [ -n "$missing" ] && [ "$(id -u)" = 0 ] && command -v apt-get >/dev/null; the
 fi
 
 tools/port.sh "$@" >"$work/log" || { cat "$work/log"; exit 1; }
-kit=${RATTLE_HOME:-$(dirname "$(dirname "$(rt doc)")")}/on/x86_64/toolchain/bin
+kit=$(dirname "$(rt doc)")/toolchain/bin
 [ -x "$kit/ld.lld" ] || fail "the kit has no $kit/ld.lld: is it the one that README.md names?"
 for c in "${CC:-cc}" readelf nm; do command -v "$c" >/dev/null || fail "no '$c' here: a C compiler and binutils are wanted"; done
 

@@ -1,11 +1,11 @@
 #!/usr/bin/env bash
 # Runs ./vosemaqe as people do: files, standard input, a link to it, and everything that it cannot read or write; what it says and its exit status.
-# The program has to be built, as `rt ci` or `rt check cli` leave it: this proves nothing, and takes seconds.
+# The program has to be built, as `rt ci` leaves it, or ./vosemaqe: this proves nothing, and takes seconds.
 set -euo pipefail
 cd "$(dirname "$0")/.."
 root=$PWD
-[ -x target/bin/cli ] || {
-    echo "tests/tool.sh: target/bin/cli is not built (rt check cli)" >&2
+[ -x crates/cli/out/cli ] || {
+    echo "tests/tool.sh: crates/cli/out/cli is not built (rt ci, or ./vosemaqe)" >&2
     exit 1
 }
 room=$(mktemp -d)
@@ -142,7 +142,7 @@ check "-h" 0 "usage: ./vosemaqe" $tool -h
 check "--version" 0 "vosemaqe $(sed -n "s/^## \([0-9.]*\).*/\1/p" CHANGELOG.md | head -n 1)" $tool --version
 
 # ---- without the kit: a folder that has the wrapper and sources newer than any program
-mkdir -p "$room/bare/crates/cli/src" "$room/bare/target/bin"
+mkdir -p "$room/bare/crates/cli/src"
 cp vosemaqe crates.txt "$room/bare"
 check "without the kit" 2 "rt is the command of the Rattle kit" env PATH=/usr/bin:/bin "$room/bare/vosemaqe" "$room/sum"
 

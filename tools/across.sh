@@ -35,8 +35,8 @@ one() { # EDIT
     label=$(basename "$1" .edit)
     rm -rf "$work/copy"
     mkdir "$work/copy"
-    cp -R "$root/crates" "$root/crates.txt" "$work/copy/"
-    [ ! -d "$root/target" ] || cp -R "$root/target" "$work/copy/target"
+    # what the repository's own checks kept in out/, rt finds by itself
+    (cd "$root" && tar --exclude=out -cf - crates crates.txt) | tar -C "$work/copy" -xf -
     cd "$work/copy" || exit 1
     all=$((all + 1))
     if ! apply "$1"; then
@@ -44,14 +44,15 @@ one() { # EDIT
         return
     fi
     began=$(date +%s)
-    rt check claim >log 2>&1
+    (cd crates/claim && rt check) >log 2>&1
+    status=$?
     took=$(($(date +%s) - began))
-    below=$(grep 'NOT PROVED' log | grep -v '^rt: claim ' | head -n 1)
-    first=$(grep -m 1 -o 'crates/claim/proofs/[^ ]*: error: `[^`]*`' log)
+    below=$(grep -m 1 -e '^rt: the library .* did not build' -e '^rt: mend these first' log)
+    first=$(grep -m 1 -o 'proofs/[^ ]*: error: `[^`]*`' log)
     if [ -n "$below" ]; then
         echo "across $label: NOT REACHED: $below ($took s)"
-    elif grep -q '^rt: claim NOT PROVED' log && [ -n "$first" ]; then
-        echo "across $label: the claim refuses it, first at ${first#crates/} ($took s)"
+    elif [ "$status" -eq 1 ] && [ -n "$first" ]; then
+        echo "across $label: the claim refuses it, first at claim/$first ($took s)"
         refused=$((refused + 1))
     else
         echo "across $label: NOT REFUSED ($took s)"

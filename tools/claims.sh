@@ -16,9 +16,9 @@ trap 'rm -f "$index"' EXIT
 # EDIT crate label; DEF crate file name; CODE crate name; CRATE name; FILE path
 {
     for c in crates/*/; do c=${c#crates/} && echo "CRATE ${c%/}"; done
-    find -L README.md docs tools tests include bindings crates samples .ci \( -name target -o -name .git \) -prune -o -print | sed 's/^/FILE /'
+    find -L README.md docs tools tests include bindings crates samples .ci \( -name target -o -name out -o -name .git \) -prune -o -print | sed 's/^/FILE /'
     ls crates/*/must-fail/*.edit | sed -E 's,^crates/([^/]*)/must-fail/(.*)\.edit$,EDIT \1 \2,'
-    find crates -name '*.antt' \( -path '*/specs/*' -o -path '*/proofs/*' \) -exec awk '
+    find crates/*/specs crates/*/proofs -name '*.antt' -exec awk '
         FNR == 1 { split(FILENAME, p, "/"); c = p[2]; f = substr(FILENAME, length("crates/" c "/") + 1); sub(/\.antt$/, "", f); print "DEF", c, f, "." }
         /^ *--/ || /^use / { next }
         {
@@ -27,7 +27,7 @@ trap 'rm -f "$index"' EXIT
             if ($1 ~ /^(record|data|ruleset)$/) { print "DEF", c, f, $2; next }
             for (i = 1; i <= NF && $i !~ /[({.})=]/; i++) if ($(i + 1) == ":") { for (k = 1; k <= i; k++) print "DEF", c, f, $k; break }
         }' {} +
-    find crates -path '*/src/*.rt' -exec awk '
+    find crates/*/src -name '*.rt' -exec awk '
         FNR == 1 { split(FILENAME, p, "/"); c = p[2] }
         match($0, /(fn|struct|enum|const|type|mod) [A-Za-z0-9_]+/) { n = substr($0, RSTART, RLENGTH); sub(/.* /, "", n); print "CODE", c, n }
         match($0, /^    [A-Z][A-Za-z0-9]*/) { print "CODE", c, substr($0, 5, RLENGTH - 4) }' {} +
@@ -81,7 +81,7 @@ awk -v index_file="$index" -v claims="$claims" '
             if (RSTART > 1 && substr(t, RSTART - 1, 1) ~ /[A-Za-z0-9_\/.]/) p = ""
             t = substr(t, RSTART + RLENGTH)
             sub(/[.\/]+$/, "", p)
-            if (p != "" && p !~ /\*|NAME|\/target\// && !(p in path)) bad("no file " p)
+            if (p != "" && p !~ /\*|NAME|\/(target|out)\// && !(p in path)) bad("no file " p)
         }
     }
     # names in backticks that stand beside no file

@@ -3,7 +3,7 @@
 # Builds the archive and the driver (tools/fuzz), natively on x86-64; prints counts and time; fails on the first answer or byte that is not the oracle's.
 set -euo pipefail
 cd "$(dirname "$0")/.."
-[ -n "${VOSEMAQE_LIB:-}" ] || rt staticlib vosemaqe >/dev/null
+[ -n "${VOSEMAQE_LIB:-}" ] || tools/build.sh
 cd tools/fuzz
 cargo build --offline --locked --release --quiet
 for side in above below; do

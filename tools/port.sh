@@ -2,9 +2,9 @@
 # The proved library for another processor: tools/port.sh TARGET.. ('all' for every one; without a word it lists them).
 # Writes target/port/TARGET/libvosemaqe.a, vosemaqe.h, and the stack frame of each function, frames; docs/PORTING.md says how a firmware links them.
 #
-# `rt staticlib` runs as always, so nothing is compiled that is not proved. It runs over a shadow of the kit, links to every file but clang, whose place has a
-# script that keeps the module which clang is handed; the kit's own clang then compiles that module for the target. What is proved is the module's source; that
-# this compiler's code for a target does the same is tested (tests/port.sh), as it is for x86-64.
+# `rt lib` runs as always, so nothing is compiled that is not proved. It runs over a shadow of the kit (shadow.sh), where clang's place has a script that
+# keeps the module which clang is handed; the kit's own clang then compiles that module for the target. What is proved is the module's source; that this
+# compiler's code for a target does the same is tested (tests/port.sh), as it is for x86-64.
 set -euo pipefail
 cd "$(dirname "$0")/.."
 targets="cortex-m0plus cortex-m4 cortex-m7 rv32imac aarch64 wasm32"
@@ -34,52 +34,39 @@ for t in "$@"; do flags_of "$t" >/dev/null || fail "no target '$t': there are $t
 
 # ---- the kit
 command -v rt >/dev/null || fail "no 'rt' on the PATH: the Rattle kit is wanted (README.md)"
-kit=${RATTLE_HOME:-$(dirname "$(dirname "$(rt doc)")")}
-own=on/$(uname -m)/toolchain/bin
-clang=$kit/$own/clang ar=$kit/$own/llvm-ar
+bin=$(dirname "$(rt doc)")/toolchain/bin
+clang=$bin/clang ar=$bin/llvm-ar
 for f in "$clang" "$ar"; do [ -x "$f" ] || fail "the kit has no $f: is it the one that README.md names?"; done
 
 work=$(mktemp -d)
 trap 'rm -rf "$work"' EXIT
 
-# ---- the module: made anew where the proved library is another one than when it was last made
-module=target/port/module.ll
-rt check vosemaqe >"$work/log" 2>&1 || { cat "$work/log" >&2; fail "the library is not proved, so nothing is built"; }
-now="$(rt version), $(cat target/stamp/vosemaqe)"
-# Links to what stands in one folder of the kit, but for one name.
-shadow() { # FOLDER NAME
-    local f
-    mkdir -p "$work/kit/$1"
-    for f in "$kit/$1"/*; do [ "${f##*/}" = "$2" ] || ln -s "$f" "$work/kit/$1/"; done
-}
-if [ ! -s "$module" ] || [ ! -s target/port/x86-64/libvosemaqe.a ] || [ "$(cat "$module.of" 2>/dev/null)" != "$now" ]; then
-    shadow . on
-    shadow "${own%/toolchain/bin}" toolchain
-    shadow "${own%/bin}" bin
-    shadow "$own" clang
-    cat >"$work/kit/$own/clang" <<END
+# ---- the module
+tools/build.sh || fail "the library is not proved, so nothing is built"
+tools/shadow.sh "$work/kit"
+rm "$work/kit/toolchain/bin/clang"
+cat >"$work/kit/toolchain/bin/clang" <<END
 #!/bin/sh
 for a in "\$@"; do case \$a in *.bc) cp "\$a" "$work/module.bc" ;; esac; done
 exec "$clang" "\$@"
 END
-    chmod +x "$work/kit/$own/clang"
-    RATTLE_HOME=$work/kit rt staticlib vosemaqe >"$work/log" 2>&1 || { cat "$work/log" >&2; fail "the library is not proved, so nothing is built"; }
-    [ -s "$work/module.bc" ] || fail "rt handed clang no module (*.bc): this kit is not the one that README.md names"
-    mkdir -p target/port/x86-64
-    cp target/staticlib/libvosemaqe.a target/port/x86-64/ # of the same module, for comparison
-    "$clang" -Wno-override-module -S -emit-llvm -O0 -Xclang -disable-llvm-passes -x ir "$work/module.bc" -o "$module"
-    echo "$now" >"$module.of"
-fi
+chmod +x "$work/kit/toolchain/bin/clang"
+(cd crates/vosemaqe && "$work/kit/bin/rt" lib) >"$work/log" 2>&1 || { cat "$work/log" >&2; fail "the library is not proved, so nothing is built"; }
+[ -s "$work/module.bc" ] || fail "rt handed clang no module (*.bc): this kit is not the one that README.md names"
+mkdir -p target/port/x86-64
+cp crates/vosemaqe/out/libvosemaqe.a target/port/x86-64/ # of the same module, for comparison
+module=target/port/module.ll
+"$clang" -Wno-override-module -S -emit-llvm -O0 -Xclang -disable-llvm-passes -x ir "$work/module.bc" -o "$module"
 # What is said of x86-64 alone goes: triple, layout, processor, stack probes. Unwind tables go too: nothing here throws. A returned byte is zero-extended, as
 # callers on Arm and RISC-V may rely on.
-sed -e '/^target /d' -e 's/ "target-cpu"="[^"]*"//; s/ "probe-stack"="[^"]*"//; s/ uwtable//' \
+sed -e '/^target /d' -e 's/ "target-cpu"="[^"]*"//; s/ "probe-stack"="[^"]*"//; s/ "stack-probe-size"="[^"]*"//; s/ uwtable//' \
     -e 's/^define noundef i8 @vosemaqe_/define noundef zeroext i8 @vosemaqe_/' "$module" >"$work/module.ll"
 # a kit that writes its module otherwise than this reads it must not pass in silence
 exported() { sed -n "s/^define $1 @\(vosemaqe_[a-z_]*\)(.*/\1/p" "$work/module.ll" | sort; }
 declared() { sed -n "s/^$1 \(vosemaqe_[a-z_]*\)(.*/\1/p" include/vosemaqe.h | sort; }
 [ "$(exported '[^@]*')" = "$(declared '[a-z0-9_]*')" ] || fail "the module and include/vosemaqe.h name other functions"
 [ "$(exported 'noundef zeroext i8')" = "$(declared uint8_t)" ] || fail "a returned byte of the module is not zero-extended"
-if grep -q -e '^target ' -e '"target-' -e '"probe-stack"' "$work/module.ll"; then fail "the module still names a processor"; fi
+if grep -q -e '^target ' -e '"target-' -e '"probe-stack"' -e '"stack-probe' "$work/module.ll"; then fail "the module still names a processor"; fi
 
 # ---- the archives
 for t in "$@"; do

@@ -43,7 +43,7 @@ reached() { # CRATE
         seen[$f]=1
         while read -r crate name; do
             [ ! -e "crates/$crate/specs/$name.antt" ] || todo+=("crates/$crate/specs/$name.antt")
-        done < <(sed -nE 's/^(ghost |unfoldable )?(pub )?use Rattle·([a-z0-9_]+)(·specs)?\.specs\.([A-Za-z0-9]+).*/\3 \5/p' "$f")
+        done < <(sed -nE 's/^(ghost |unfoldable )?(pub )?use Rattle\.([a-z0-9_]+)\.specs\.([A-Za-z0-9]+).*/\3 \4/p' "$f")
     done
     # shellcheck disable=SC2046
     count $(printf '%s\n' "${!seen[@]}" | grep 'antt$' | sort)

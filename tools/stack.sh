@@ -3,7 +3,7 @@
 # First as they were touched on a painted stack, then by the frames that the code takes. Fails where a call takes more than docs/STACK.md tells a caller.
 set -euo pipefail
 cd "$(dirname "$0")/.."
-[ -n "${VOSEMAQE_LIB:-}" ] || rt staticlib vosemaqe >/dev/null
+[ -n "${VOSEMAQE_LIB:-}" ] || tools/build.sh
 cd tools/boundary
 cargo build --offline --locked --release --quiet
 target/release/stack "$@"

@@ -3,7 +3,7 @@
 set -euo pipefail
 cd "$(dirname "$0")/../.."
 archive=${1:-target/staticlib/libvosemaqe.a}
-[ $# -gt 0 ] || rt staticlib vosemaqe >/dev/null
+[ $# -gt 0 ] || tools/build.sh
 command -v valgrind >/dev/null || { echo "reads: no valgrind here"; exit 0; }
 out=$(mktemp -d)
 trap 'rm -rf "$out"' EXIT

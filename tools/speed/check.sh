@@ -3,7 +3,7 @@
 # Where there is valgrind, also how many instructions each takes a node, which no other work on the machine changes.
 set -euo pipefail
 cd "$(dirname "$0")/../.."
-[ -n "${VOSEMAQE_LIB:-}" ] || rt staticlib vosemaqe >/dev/null
+[ -n "${VOSEMAQE_LIB:-}" ] || tools/build.sh
 cd tools/boundary
 cargo build --offline --locked --release --quiet
 target/release/check_speed "$@"

@@ -3,7 +3,7 @@
 # With the word count: the instructions of each row, proved and plain, by valgrind, which other work on the machine does not change.
 set -euo pipefail
 cd "$(dirname "$0")/../.."
-[ -n "${VOSEMAQE_LIB:-}" ] || rt staticlib vosemaqe >/dev/null
+[ -n "${VOSEMAQE_LIB:-}" ] || tools/build.sh
 mkdir -p target/speed
 cc -O3 -Iinclude -o target/speed/machine tools/speed/machine.c tools/speed/plain.c "${VOSEMAQE_LIB:-target/staticlib}"/libvosemaqe.a
 if [ "${1:-}" = count ]; then

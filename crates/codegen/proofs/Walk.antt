@@ -285,4 +285,4 @@ module _ (ws : List ℕ) (i : ℕ) (p : Picked Tree) {r : Test} where
 
 pub ruleset asked = (inside, inner, operator, leaf-ready, ready-child, ready-after, ready-operand, ready-dest, lit≤)
 
-pub ruleset rules = (ranks, asked, rules)
+pub ruleset steps = (ranks, asked, rules)

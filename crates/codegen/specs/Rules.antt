@@ -1,6 +1,6 @@
 -- Plumbing: what the contracts of the rules ask and say at a node of an accepted table. The rules' meaning is in Gen.
 use Rattle.std.specs.Prelude.{◌≡◌, Bool, true, false, List, ℕ, ◌<◌, ◌≤◌, eqb, length}
-use Rattle.std.specs.Borrow.{Bor}
+use Rattle.std.specs.Borrow.{Bor, MutBor}
 use denote.Triple.Both.{Both}
 use Rattle.faults.specs.Limits.{max_registers}
 use Rattle.table.specs.Table.{kind_at, child1, child2}
@@ -39,18 +39,21 @@ pub record Ready (t : List ℕ) (b : Bufs) (i : ℕ) (st : St) : Type 0 where
 
 -- ---- what a rule says
 
--- a slice that is lent, at entry and at exit
+-- a slice that is shown, and one that is lent, at entry and at exit
+abbrev pub Shown : Type 0
+Shown = Both (Bor (List ℕ)) (Bor (List ℕ))
+
 abbrev pub Lent : Type 0
-Lent = Both (Bor (List ℕ)) (Bor (List ℕ))
+Lent = Both (MutBor (List ℕ)) (MutBor (List ℕ))
 
 -- a value rule: from the state st, which is read off the buffers at entry, the answer r is what f gives with the room of the jump list
-abbrev pub GivesValue : (nodes code kinds payloads jumps : Lent) (st : St) (r : Ans) (f : ℕ → State → Res (ℕ × State)) → Type 0
+abbrev pub GivesValue : (nodes : Shown) (code kinds payloads jumps : Lent) (st : St) (r : Ans) (f : ℕ → State → Res (ℕ × State)) → Type 0
 GivesValue nodes code kinds payloads jumps st r f =
     Says (bufs code.exit.now kinds.exit.now payloads.exit.now) r
     (f (length jumps.entry.now) (st_of (bufs code.entry.now kinds.entry.now payloads.entry.now) st))
 
 -- a branch rule: the same, with the jumps at the front of the list
-abbrev pub GivesJumps : (nodes code kinds payloads jumps : Lent) (st : St) (r : Jumps) (f : ℕ → State → Res (List ℕ × State)) → Type 0
+abbrev pub GivesJumps : (nodes : Shown) (code kinds payloads jumps : Lent) (st : St) (r : Jumps) (f : ℕ → State → Res (List ℕ × State)) → Type 0
 GivesJumps nodes code kinds payloads jumps st r f =
     Lists (bufs code.exit.now kinds.exit.now payloads.exit.now) jumps.exit.now r
     (f (length jumps.entry.now) (st_of (bufs code.entry.now kinds.entry.now payloads.entry.now) st))

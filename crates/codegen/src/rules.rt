@@ -17,7 +17,7 @@ use fold::{Fold, Test, fold_of, operand_of, test_of};
 // Generates the value of node i, and answers the register that holds it. `dst` is a hint: an expression that has to write somewhere writes there, but one
 // whose value already sits in a register hands that register back untouched. Callers that need the value in a specific register go through `gen_into`.
 // A condition used as a value is built from the branch that it would compile to, so that the two shapes agree (`is_cond_op` in the Rust: kinds 18 to 25).
-#[cycle(gen_arms_gen_branch_gen_code_inner_gen_cond_value_gen_into_gen_jumps_gen_junction_gen_not_gen_operand_gen_operator_gen_pair_gen_ternary_gen_test_gen_two)]
+#[cycle(generator)]
 pub fn gen_code_inner(
     nodes: &[u64],
     code: &mut [u64],
@@ -45,7 +45,7 @@ pub fn gen_code_inner(
 }
 
 // An operand: the value of node i, in any register. Never the destination, which may be a local that an operand still to come reads.
-#[cycle(gen_arms_gen_branch_gen_code_inner_gen_cond_value_gen_into_gen_jumps_gen_junction_gen_not_gen_operand_gen_operator_gen_pair_gen_ternary_gen_test_gen_two)]
+#[cycle(generator)]
 fn gen_operand(
     nodes: &[u64],
     code: &mut [u64],
@@ -63,7 +63,7 @@ fn gen_operand(
 
 // An operator that is no condition, Minus and Not included (`gen_bin_op` in the Rust has the binary ones): its one operand and the instruction that takes in
 // the rest, or, if no immediate fits, the general form.
-#[cycle(gen_arms_gen_branch_gen_code_inner_gen_cond_value_gen_into_gen_jumps_gen_junction_gen_not_gen_operand_gen_operator_gen_pair_gen_ternary_gen_test_gen_two)]
+#[cycle(generator)]
 fn gen_operator(
     nodes: &[u64],
     code: &mut [u64],
@@ -87,7 +87,7 @@ fn gen_operator(
 }
 
 // The general form: both operands, left before right, then the instruction of two registers.
-#[cycle(gen_arms_gen_branch_gen_code_inner_gen_cond_value_gen_into_gen_jumps_gen_junction_gen_not_gen_operand_gen_operator_gen_pair_gen_ternary_gen_test_gen_two)]
+#[cycle(generator)]
 fn gen_two(
     nodes: &[u64],
     code: &mut [u64],
@@ -127,7 +127,7 @@ fn gen_two(
 
 // Materializes a condition as a boolean value: its register, its branch if true, then the two loads. The register is taken first, so that it is below
 // what the branch needs.
-#[cycle(gen_arms_gen_branch_gen_code_inner_gen_cond_value_gen_into_gen_jumps_gen_junction_gen_not_gen_operand_gen_operator_gen_pair_gen_ternary_gen_test_gen_two)]
+#[cycle(generator)]
 fn gen_cond_value(
     nodes: &[u64],
     code: &mut [u64],
@@ -153,7 +153,7 @@ fn gen_cond_value(
 }
 
 // A ternary. Both arms have to land in the same register, so it is taken first.
-#[cycle(gen_arms_gen_branch_gen_code_inner_gen_cond_value_gen_into_gen_jumps_gen_junction_gen_not_gen_operand_gen_operator_gen_pair_gen_ternary_gen_test_gen_two)]
+#[cycle(generator)]
 fn gen_ternary(
     nodes: &[u64],
     code: &mut [u64],
@@ -189,7 +189,7 @@ fn gen_ternary(
 
 // The arms of the ternary at node i, whose test has n jumps pending at the front of the list: the later part of the list goes to the then side. The else
 // side gets the whole list, since the test's jumps are patched by then.
-#[cycle(gen_arms_gen_branch_gen_code_inner_gen_cond_value_gen_into_gen_jumps_gen_junction_gen_not_gen_operand_gen_operator_gen_pair_gen_ternary_gen_test_gen_two)]
+#[cycle(generator)]
 fn gen_arms(
     nodes: &[u64],
     code: &mut [u64],
@@ -236,7 +236,7 @@ fn gen_arms(
 }
 
 // Generates the value of node i into the register d: a mov follows where the value already sat in another one.
-#[cycle(gen_arms_gen_branch_gen_code_inner_gen_cond_value_gen_into_gen_jumps_gen_junction_gen_not_gen_operand_gen_operator_gen_pair_gen_ternary_gen_test_gen_two)]
+#[cycle(generator)]
 pub fn gen_into(
     nodes: &[u64],
     code: &mut [u64],
@@ -257,7 +257,7 @@ pub fn gen_into(
 // Emits a test that transfers control when node i evaluates to `sense`, and answers the jumps that have to be patched to the target; their positions stand
 // at the front of the list. A comparison compiles straight into a conditional branch here, rather than being materialized into a boolean that is then
 // tested.
-#[cycle(gen_arms_gen_branch_gen_code_inner_gen_cond_value_gen_into_gen_jumps_gen_junction_gen_not_gen_operand_gen_operator_gen_pair_gen_ternary_gen_test_gen_two)]
+#[cycle(generator)]
 fn gen_branch(
     nodes: &[u64],
     code: &mut [u64],
@@ -292,7 +292,7 @@ fn gen_branch(
 }
 
 // The branch of a condition, of a ternary's test, or of a side of And or Or.
-#[cycle(gen_arms_gen_branch_gen_code_inner_gen_cond_value_gen_into_gen_jumps_gen_junction_gen_not_gen_operand_gen_operator_gen_pair_gen_ternary_gen_test_gen_two)]
+#[cycle(generator)]
 fn gen_jumps(
     nodes: &[u64],
     code: &mut [u64],
@@ -310,7 +310,7 @@ fn gen_jumps(
 }
 
 // Negation folds into the sense of the branch.
-#[cycle(gen_arms_gen_branch_gen_code_inner_gen_cond_value_gen_into_gen_jumps_gen_junction_gen_not_gen_operand_gen_operator_gen_pair_gen_ternary_gen_test_gen_two)]
+#[cycle(generator)]
 fn gen_not(
     nodes: &[u64],
     code: &mut [u64],
@@ -338,7 +338,7 @@ fn gen_not(
 
 // A comparison, or anything else, which is evaluated and tested as a boolean. A comparison takes in a literal of 16 bits; if it has none, both sides are
 // generated.
-#[cycle(gen_arms_gen_branch_gen_code_inner_gen_cond_value_gen_into_gen_jumps_gen_junction_gen_not_gen_operand_gen_operator_gen_pair_gen_ternary_gen_test_gen_two)]
+#[cycle(generator)]
 fn gen_test(
     nodes: &[u64],
     code: &mut [u64],
@@ -361,7 +361,7 @@ fn gen_test(
 }
 
 // Both operands of the comparison at node i, left before right, then the branch that compares them.
-#[cycle(gen_arms_gen_branch_gen_code_inner_gen_cond_value_gen_into_gen_jumps_gen_junction_gen_not_gen_operand_gen_operator_gen_pair_gen_ternary_gen_test_gen_two)]
+#[cycle(generator)]
 fn gen_pair(
     nodes: &[u64],
     code: &mut [u64],
@@ -410,7 +410,7 @@ fn gen_pair(
 
 // Short-circuiting operators branch directly, with no boolean in between: And, which a false left side decides, and Or, which a true one does (`by`). One of
 // the two senses needs the first test to skip over the second, which `join` patches. The later part of the list goes to the right side.
-#[cycle(gen_arms_gen_branch_gen_code_inner_gen_cond_value_gen_into_gen_jumps_gen_junction_gen_not_gen_operand_gen_operator_gen_pair_gen_ternary_gen_test_gen_two)]
+#[cycle(generator)]
 fn gen_junction(
     nodes: &[u64],
     code: &mut [u64],

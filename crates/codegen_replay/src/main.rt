@@ -3,6 +3,8 @@
 
 use compile::buffers::Compiled;
 use replay_io::within;
+use std::io;
+use std::io::{BufReader, BufWriter, Read, Write};
 use table::Dest;
 
 // Room for the largest record.
@@ -19,26 +21,27 @@ fn dest_of(d: u64) -> Dest {
     Dest::Reg(d - 1)
 }
 
-fn write_answer(c: Compiled) {
+fn write_answer<W: Write>(output: &mut W, c: Compiled) -> io::Result<()> {
     match c {
         Compiled::Done(words, slots, register, frame) => {
-            replay_io::write_word(0);
-            replay_io::write_word(words as u64);
-            replay_io::write_word(slots as u64);
-            replay_io::write_word(register as u64);
-            replay_io::write_word(frame as u64);
+            replay_io::write_word(output, 0)?;
+            replay_io::write_word(output, words as u64)?;
+            replay_io::write_word(output, slots as u64)?;
+            replay_io::write_word(output, register as u64)?;
+            replay_io::write_word(output, frame as u64)
         }
         Compiled::Refused(n) => {
-            replay_io::write_word(n as u64);
-            replay_io::write_word(0);
-            replay_io::write_word(0);
-            replay_io::write_word(0);
-            replay_io::write_word(0);
+            replay_io::write_word(output, n as u64)?;
+            replay_io::write_word(output, 0)?;
+            replay_io::write_word(output, 0)?;
+            replay_io::write_word(output, 0)?;
+            replay_io::write_word(output, 0)
         }
     }
 }
 
-fn answer(
+fn answer<W: Write>(
+    output: &mut W,
     nodes: &[u64],
     params: u64,
     locals: u64,
@@ -46,15 +49,27 @@ fn answer(
     code: &mut [u64],
     kinds: &mut [u8],
     payloads: &mut [u64],
-) {
-    write_answer(compile::compile(nodes, params, locals, dest_of(dest), code, kinds, payloads));
-    replay_io::write_words(code);
-    replay_io::write_bytes(kinds);
-    replay_io::write_words(payloads);
+) -> io::Result<()> {
+    write_answer(
+        output,
+        compile::compile(nodes, params, locals, dest_of(dest), code, kinds, payloads),
+    )?;
+    replay_io::write_words(output, code)?;
+    replay_io::write_bytes(output, kinds)?;
+    replay_io::write_words(output, payloads)
 }
 
 // The buffers are new in every record and hold no zero, so that what compiling zeroes shows.
-fn serve(n: u64, nodes: &[u64], params: u64, locals: u64, dest: u64, words: u64, slots: u64) {
+fn serve<W: Write>(
+    output: &mut W,
+    n: u64,
+    nodes: &[u64],
+    params: u64,
+    locals: u64,
+    dest: u64,
+    words: u64,
+    slots: u64,
+) -> io::Result<()> {
     let mut code = [0xa5a5_a5a5_a5a5_a5a5u64; WORDS];
     let mut kinds = [0xa5u8; SLOTS];
     let mut payloads = [0xa5a5_a5a5_a5a5_a5a5u64; SLOTS];
@@ -62,6 +77,7 @@ fn serve(n: u64, nodes: &[u64], params: u64, locals: u64, dest: u64, words: u64,
     let w = within(words, WORDS);
     let s = within(slots, SLOTS);
     answer(
+        output,
         &nodes[..t],
         params,
         locals,
@@ -69,24 +85,27 @@ fn serve(n: u64, nodes: &[u64], params: u64, locals: u64, dest: u64, words: u64,
         &mut code[..w],
         &mut kinds[..s],
         &mut payloads[..s],
-    );
+    )
 }
 
-fn replay() {
-    let n = replay_io::read_word();
-    let params = replay_io::read_word();
-    let locals = replay_io::read_word();
-    let dest = replay_io::read_word();
-    let words = replay_io::read_word();
-    let slots = replay_io::read_word();
+fn replay<R: Read, W: Write>(input: &mut R, output: &mut W) -> io::Result<()> {
+    let n = replay_io::read_word(input)?;
+    let params = replay_io::read_word(input)?;
+    let locals = replay_io::read_word(input)?;
+    let dest = replay_io::read_word(input)?;
+    let words = replay_io::read_word(input)?;
+    let slots = replay_io::read_word(input)?;
     let mut nodes = [0u64; TABLE_WORDS];
-    replay_io::read_words(&mut nodes, n);
-    serve(n, &nodes, params, locals, dest, words, slots);
+    replay_io::read_words(input, &mut nodes, n)?;
+    serve(output, n, &nodes, params, locals, dest, words, slots)
 }
 
-fn main() {
-    let n = replay_io::read_word();
+fn main(rt: HostRuntime) -> io::Result<()> {
+    let mut input = BufReader::new(rt.alloc(), rt.stdin())?;
+    let mut output = BufWriter::new(rt.alloc(), rt.stdout())?;
+    let n = replay_io::read_word(&mut input)?;
     for _ in 0..n {
-        replay();
+        replay(&mut input, &mut output)?;
     }
+    output.flush()
 }

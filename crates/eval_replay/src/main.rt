@@ -2,6 +2,8 @@
 #![tactic(auto)]
 
 use replay_io::within;
+use std::io;
+use std::io::{BufReader, BufWriter, Read, Write};
 use table::Dest;
 use value::answer::Answer;
 
@@ -17,23 +19,24 @@ fn dest_of(d: u64) -> Dest {
     Dest::Reg(d - 1)
 }
 
-fn write_answer(a: Answer) {
+fn write_answer<W: Write>(output: &mut W, a: Answer) -> io::Result<()> {
     match a {
         Answer::Is(v) => {
-            replay_io::write_word(0);
-            replay_io::write_word(value::kind_of(v) as u64);
-            replay_io::write_word(value::payload_of(v));
+            replay_io::write_word(output, 0)?;
+            replay_io::write_word(output, value::kind_of(v) as u64)?;
+            replay_io::write_word(output, value::payload_of(v))
         }
         Answer::Fault(n) => {
-            replay_io::write_word(n as u64);
-            replay_io::write_word(0);
-            replay_io::write_word(0);
+            replay_io::write_word(output, n as u64)?;
+            replay_io::write_word(output, 0)?;
+            replay_io::write_word(output, 0)
         }
     }
 }
 
 // What was read, as much of each as was announced.
-fn serve(
+fn serve<W: Write>(
+    output: &mut W,
     n: u64,
     words: &[u64],
     params: u64,
@@ -43,33 +46,44 @@ fn serve(
     kinds: &[u8],
     np: u64,
     payloads: &[u64],
-) {
+) -> io::Result<()> {
     let w = within(n, words.len());
     let k = within(nk, kinds.len());
     let p = within(np, payloads.len());
-    replay_io::write_word(table::check::check(&words[..w], params, locals, dest_of(dest)) as u64);
-    write_answer(eval::evaluate(&words[..w], params, locals, &kinds[..k], &payloads[..p]));
+    replay_io::write_word(
+        output,
+        table::check::check(&words[..w], params, locals, dest_of(dest)) as u64,
+    )?;
+    write_answer(
+        output,
+        eval::evaluate(&words[..w], params, locals, &kinds[..k], &payloads[..p]),
+    )
 }
 
-fn replay() {
-    let n = replay_io::read_word();
-    let params = replay_io::read_word();
-    let locals = replay_io::read_word();
-    let dest = replay_io::read_word();
-    let nk = replay_io::read_word();
-    let np = replay_io::read_word();
+fn replay<R: Read, W: Write>(input: &mut R, output: &mut W) -> io::Result<()> {
+    let n = replay_io::read_word(input)?;
+    let params = replay_io::read_word(input)?;
+    let locals = replay_io::read_word(input)?;
+    let dest = replay_io::read_word(input)?;
+    let nk = replay_io::read_word(input)?;
+    let np = replay_io::read_word(input)?;
     let mut words = [0u64; TABLE_WORDS];
     let mut kinds = [0u8; LOCALS];
     let mut payloads = [0u64; LOCALS];
-    replay_io::read_words(&mut words, n);
-    replay_io::read_bytes(&mut kinds, nk);
-    replay_io::read_words(&mut payloads, np);
-    serve(n, &words, params, locals, dest, nk, &kinds, np, &payloads);
+    replay_io::read_words(input, &mut words, n)?;
+    replay_io::read_bytes(input, &mut kinds, nk)?;
+    replay_io::read_words(input, &mut payloads, np)?;
+    serve(
+        output, n, &words, params, locals, dest, nk, &kinds, np, &payloads,
+    )
 }
 
-fn main() {
-    let n = replay_io::read_word();
+fn main(rt: HostRuntime) -> io::Result<()> {
+    let mut input = BufReader::new(rt.alloc(), rt.stdin())?;
+    let mut output = BufWriter::new(rt.alloc(), rt.stdout())?;
+    let n = replay_io::read_word(&mut input)?;
     for _ in 0..n {
-        replay();
+        replay(&mut input, &mut output)?;
     }
+    output.flush()
 }

@@ -5,6 +5,8 @@ ghost use Rattle.std.specs.Prelude.{◌≤◌, length};
 
 use machine::run::Ran;
 use replay_io::within;
+use std::io;
+use std::io::{BufReader, BufWriter, Read, Write};
 
 // Room for the largest record.
 const WORDS: usize = 256;
@@ -48,7 +50,8 @@ fn ran(
     )
 }
 
-fn answer(
+fn answer<W: Write>(
+    output: &mut W,
     words: &[u64],
     entry: u64,
     end: u64,
@@ -58,7 +61,7 @@ fn answer(
     payloads: &mut [u64],
     slot_kinds: &[u8],
     slot_payloads: &[u64],
-) {
+) -> io::Result<()> {
     let r = ran(
         words,
         entry,
@@ -70,15 +73,16 @@ fn answer(
         slot_kinds,
         slot_payloads,
     );
-    replay_io::write_word(r.number as u64);
-    replay_io::write_word(r.steps);
-    replay_io::write_word(r.position as u64);
-    replay_io::write_bytes(kinds);
-    replay_io::write_words(payloads);
+    replay_io::write_word(output, r.number as u64)?;
+    replay_io::write_word(output, r.steps)?;
+    replay_io::write_word(output, r.position as u64)?;
+    replay_io::write_bytes(output, kinds)?;
+    replay_io::write_words(output, payloads)
 }
 
 // The first k kinds and p payloads are lent.
-fn lend(
+fn lend<W: Write>(
+    output: &mut W,
     words: &[u64],
     entry: u64,
     end: u64,
@@ -90,11 +94,12 @@ fn lend(
     p: usize,
     slot_kinds: &[u8],
     slot_payloads: &[u64],
-)
+) -> io::Result<()>
     requires k_in_bounds { k ≤ length kinds.old }
     requires p_in_bounds { p ≤ length payloads.old }
 {
     answer(
+        output,
         words,
         entry,
         end,
@@ -104,11 +109,12 @@ fn lend(
         &mut payloads[..p],
         slot_kinds,
         slot_payloads,
-    );
+    )
 }
 
 // What was read is run, as much of each as was announced.
-fn serve(
+fn serve<W: Write>(
+    output: &mut W,
     nw: u64,
     words: &[u64],
     entry: u64,
@@ -123,13 +129,14 @@ fn serve(
     slot_kinds: &[u8],
     nsp: u64,
     slot_payloads: &[u64],
-) {
+) -> io::Result<()> {
     let w = within(nw, words.len());
     let k = within(nk, kinds.len());
     let p = within(np, payloads.len());
     let sk = within(nsk, slot_kinds.len());
     let sp = within(nsp, slot_payloads.len());
     lend(
+        output,
         &words[..w],
         entry,
         end,
@@ -141,30 +148,31 @@ fn serve(
         p,
         &slot_kinds[..sk],
         &slot_payloads[..sp],
-    );
+    )
 }
 
-fn replay() {
-    let nw = replay_io::read_word();
-    let entry = replay_io::read_word();
-    let end = replay_io::read_word();
-    let start = replay_io::read_word();
-    let budget = replay_io::read_word();
-    let nk = replay_io::read_word();
-    let np = replay_io::read_word();
-    let nsk = replay_io::read_word();
-    let nsp = replay_io::read_word();
+fn replay<R: Read, W: Write>(input: &mut R, output: &mut W) -> io::Result<()> {
+    let nw = replay_io::read_word(input)?;
+    let entry = replay_io::read_word(input)?;
+    let end = replay_io::read_word(input)?;
+    let start = replay_io::read_word(input)?;
+    let budget = replay_io::read_word(input)?;
+    let nk = replay_io::read_word(input)?;
+    let np = replay_io::read_word(input)?;
+    let nsk = replay_io::read_word(input)?;
+    let nsp = replay_io::read_word(input)?;
     let mut words = [0u64; WORDS];
     let mut kinds = [0u8; PAIRS];
     let mut payloads = [0u64; PAIRS];
     let mut slot_kinds = [0u8; PAIRS];
     let mut slot_payloads = [0u64; PAIRS];
-    replay_io::read_words(&mut words, nw);
-    replay_io::read_bytes(&mut kinds, nk);
-    replay_io::read_words(&mut payloads, np);
-    replay_io::read_bytes(&mut slot_kinds, nsk);
-    replay_io::read_words(&mut slot_payloads, nsp);
+    replay_io::read_words(input, &mut words, nw)?;
+    replay_io::read_bytes(input, &mut kinds, nk)?;
+    replay_io::read_words(input, &mut payloads, np)?;
+    replay_io::read_bytes(input, &mut slot_kinds, nsk)?;
+    replay_io::read_words(input, &mut slot_payloads, nsp)?;
     serve(
+        output,
         nw,
         &words,
         entry,
@@ -179,12 +187,15 @@ fn replay() {
         &slot_kinds,
         nsp,
         &slot_payloads,
-    );
+    )
 }
 
-fn main() {
-    let n = replay_io::read_word();
+fn main(rt: HostRuntime) -> io::Result<()> {
+    let mut input = BufReader::new(rt.alloc(), rt.stdin())?;
+    let mut output = BufWriter::new(rt.alloc(), rt.stdout())?;
+    let n = replay_io::read_word(&mut input)?;
     for _ in 0..n {
-        replay();
+        replay(&mut input, &mut output)?;
     }
+    output.flush()
 }

@@ -1,6 +1,8 @@
 // Replays operators on lent values, and writes what they answer; tools/oracle/README.md has the layout.
 #![tactic(auto)]
 
+use std::io;
+use std::io::{BufReader, BufWriter, Read, Write};
 use value::answer::Answer;
 use value::{Lent, Value};
 
@@ -30,33 +32,36 @@ fn answer(kind: u64, x: Lent, y: Lent) -> Answer {
     apply(kind, a, b)
 }
 
-fn write_answer(a: Answer) {
+fn write_answer<W: Write>(output: &mut W, a: Answer) -> io::Result<()> {
     match a {
         Answer::Is(v) => {
-            replay_io::write_word(0);
-            replay_io::write_word(value::kind_of(v) as u64);
-            replay_io::write_word(value::payload_of(v));
+            replay_io::write_word(output, 0)?;
+            replay_io::write_word(output, value::kind_of(v) as u64)?;
+            replay_io::write_word(output, value::payload_of(v))
         }
         Answer::Fault(n) => {
-            replay_io::write_word(n as u64);
-            replay_io::write_word(0);
-            replay_io::write_word(0);
+            replay_io::write_word(output, n as u64)?;
+            replay_io::write_word(output, 0)?;
+            replay_io::write_word(output, 0)
         }
     }
 }
 
-fn replay() {
-    let kind = replay_io::read_word();
-    let ka = replay_io::read_word();
-    let pa = replay_io::read_word();
-    let kb = replay_io::read_word();
-    let pb = replay_io::read_word();
-    write_answer(answer(kind, lent(ka, pa), lent(kb, pb)));
+fn replay<R: Read, W: Write>(input: &mut R, output: &mut W) -> io::Result<()> {
+    let kind = replay_io::read_word(input)?;
+    let ka = replay_io::read_word(input)?;
+    let pa = replay_io::read_word(input)?;
+    let kb = replay_io::read_word(input)?;
+    let pb = replay_io::read_word(input)?;
+    write_answer(output, answer(kind, lent(ka, pa), lent(kb, pb)))
 }
 
-fn main() {
-    let n = replay_io::read_word();
+fn main(rt: HostRuntime) -> io::Result<()> {
+    let mut input = BufReader::new(rt.alloc(), rt.stdin())?;
+    let mut output = BufWriter::new(rt.alloc(), rt.stdout())?;
+    let n = replay_io::read_word(&mut input)?;
     for _ in 0..n {
-        replay();
+        replay(&mut input, &mut output)?;
     }
+    output.flush()
 }

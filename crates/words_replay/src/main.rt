@@ -7,6 +7,8 @@ use insns::fields::{HALF_16, HALF_32, SIZE_8, SIZE_16, SIZE_32};
 use insns::op::{Disp, Imm16, Imm40};
 use insns::{Insn, Made};
 use operands::of_op::{PlainOp, plain_op};
+use std::io;
+use std::io::{BufReader, BufWriter, Read, Write};
 
 // An operand of a record as each type. The signed ones are sign-extended to 64 bits.
 fn small_of(x: u64) -> u8 {
@@ -207,15 +209,24 @@ fn construct(op: u64, x1: u64, x2: u64, x3: u64, x4: u64, x5: u64) -> Made {
 }
 
 // An answer: a number and up to six more.
-fn write_row(n: u64, a: u64, b: u64, c: u64, d: u64, e: u64, f: u64) {
-    replay_io::write_word(n);
-    replay_io::write_word(a);
-    replay_io::write_word(b);
-    replay_io::write_word(c);
-    replay_io::write_word(d);
-    replay_io::write_word(e);
-    replay_io::write_word(f);
-    replay_io::write_word(0);
+fn write_row<W: Write>(
+    output: &mut W,
+    n: u64,
+    a: u64,
+    b: u64,
+    c: u64,
+    d: u64,
+    e: u64,
+    f: u64,
+) -> io::Result<()> {
+    replay_io::write_word(output, n)?;
+    replay_io::write_word(output, a)?;
+    replay_io::write_word(output, b)?;
+    replay_io::write_word(output, c)?;
+    replay_io::write_word(output, d)?;
+    replay_io::write_word(output, e)?;
+    replay_io::write_word(output, f)?;
+    replay_io::write_word(output, 0)
 }
 
 fn wide(op: u8) -> u64 {
@@ -223,23 +234,23 @@ fn wide(op: u8) -> u64 {
 }
 
 // The opcode of a decoded instruction and its operands in declared order.
-fn write_plain(n: u64, p: PlainOp) {
-    write_row(n, p.opcode, p.a, p.b, p.c, p.d, p.e);
+fn write_plain<W: Write>(output: &mut W, n: u64, p: PlainOp) -> io::Result<()> {
+    write_row(output, n, p.opcode, p.a, p.b, p.c, p.d, p.e)
 }
 
-fn write_made(m: Made) {
+fn write_made<W: Write>(output: &mut W, m: Made) -> io::Result<()> {
     let n = wide(insns::number_of(m));
     match m {
-        Made::Fits(w) => write_row(n, w.bits, 0, 0, 0, 0, 0),
-        Made::Refused => write_row(n, 0, 0, 0, 0, 0, 0),
+        Made::Fits(w) => write_row(output, n, w.bits, 0, 0, 0, 0, 0),
+        Made::Refused => write_row(output, n, 0, 0, 0, 0, 0, 0),
     }
 }
 
-fn write_decoded(d: Decoded) {
+fn write_decoded<W: Write>(output: &mut W, d: Decoded) -> io::Result<()> {
     let n = wide(decode::number_of(d));
     match d {
-        Decoded::Is(i) => write_plain(n, plain_op(i)),
-        Decoded::Bad => write_row(n, 0, 0, 0, 0, 0, 0),
+        Decoded::Is(i) => write_plain(output, n, plain_op(i)),
+        Decoded::Bad => write_row(output, n, 0, 0, 0, 0, 0, 0),
     }
 }
 
@@ -253,38 +264,45 @@ fn patch_in(store: &mut [u64], n: u64, at: u64, target: u64) -> Patched {
 }
 
 // Patches a store of four words, of which n are in use, and writes the number and the store.
-fn replay_patch(n: u64, at: u64, target: u64, mut store: [u64; 4]) {
+fn replay_patch<W: Write>(
+    output: &mut W,
+    n: u64,
+    at: u64,
+    target: u64,
+    mut store: [u64; 4],
+) -> io::Result<()> {
     let p = patch_in(&mut store, n, at, target);
-    replay_io::write_word(wide(decode::patch::number_of(p)));
-    replay_io::write_words(&store);
-    replay_io::write_word(0);
-    replay_io::write_word(0);
-    replay_io::write_word(0);
+    replay_io::write_word(output, wide(decode::patch::number_of(p)))?;
+    replay_io::write_words(output, &store)?;
+    replay_io::write_word(output, 0)?;
+    replay_io::write_word(output, 0)?;
+    replay_io::write_word(output, 0)
 }
 
-fn replay() {
-    let job = replay_io::read_word();
-    let a = replay_io::read_word();
-    let b = replay_io::read_word();
-    let c = replay_io::read_word();
-    let d = replay_io::read_word();
-    let e = replay_io::read_word();
-    let f = replay_io::read_word();
-    let g = replay_io::read_word();
+fn replay<R: Read, W: Write>(input: &mut R, output: &mut W) -> io::Result<()> {
+    let job = replay_io::read_word(input)?;
+    let a = replay_io::read_word(input)?;
+    let b = replay_io::read_word(input)?;
+    let c = replay_io::read_word(input)?;
+    let d = replay_io::read_word(input)?;
+    let e = replay_io::read_word(input)?;
+    let f = replay_io::read_word(input)?;
+    let g = replay_io::read_word(input)?;
     if job == 0 {
-        write_made(construct(a, b, c, d, e, f));
-        return;
+        return write_made(output, construct(a, b, c, d, e, f));
     }
     if job == 1 {
-        write_decoded(decode::decode(a));
-        return;
+        return write_decoded(output, decode::decode(a));
     }
-    replay_patch(a, b, c, [d, e, f, g]);
+    replay_patch(output, a, b, c, [d, e, f, g])
 }
 
-fn main() {
-    let n = replay_io::read_word();
+fn main(rt: HostRuntime) -> io::Result<()> {
+    let mut input = BufReader::new(rt.alloc(), rt.stdin())?;
+    let mut output = BufWriter::new(rt.alloc(), rt.stdout())?;
+    let n = replay_io::read_word(&mut input)?;
     for _ in 0..n {
-        replay();
+        replay(&mut input, &mut output)?;
     }
+    output.flush()
 }

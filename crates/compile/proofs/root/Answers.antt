@@ -1,0 +1,16 @@
+-- `root` generates the whole tree.
+use Rattle.compile.proofs.Roots.{roots}
+use borrow.Author.Rules.{rules}
+use Rattle.compile.proofs.root.Goals as goal
+
+pub gen_code_inner-requires : goal.gen_code_inner-requires
+gen_code_inner-requires c = search (roots, rules)
+
+pub gen_into-requires : goal.gen_into-requires
+gen_into-requires c = search (roots, rules)
+
+pub returns-in-Any : goal.returns-in-Any
+returns-in-Any c = search (roots, rules)
+
+pub returns-in-To : goal.returns-in-To
+returns-in-To c = search (roots, rules)
