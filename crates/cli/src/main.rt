@@ -18,7 +18,7 @@ use reader::head::{Head, NODES};
 use std::env::{Env, FillError};
 use std::io::{Cursor, Read, Write};
 use std::rt::Files;
-use std::{fs, io, str};
+use std::{env, fs, io, str};
 use text::scan::find;
 
 // Room for a text, for the nodes of an expression that is shown, and for as many values as there are registers.
@@ -235,25 +235,37 @@ fn is_dash(name: &[u8]) -> bool {
 // The number of the system's error for a name that it does not take.
 const EINVAL: i32 = 22;
 
-// A path is text.
-fn open<R: Files>(rt: &R, name: &[u8]) -> io::Result<R::File> {
-    match str::from_utf8(name) {
-        Ok(path) => fs::open(rt, path),
+// The folder in which the command ./vosemaqe leaves links to files: a path is text here, and a name need not be.
+const LINKS: &str = "VOSEMAQE_LINKS";
+
+// The file to which the i-th argument's link leads.
+fn open_link<R: Files + Env + Alloc>(rt: &R, i: usize) -> io::Result<R::File> {
+    match env::var(rt, LINKS) {
+        Ok(folder) => fs::open(rt, format!(in rt.alloc(); "{folder}/{i}")?),
         Err(_) => Err(io::Error::from_raw_os_error(EINVAL)),
     }
 }
 
-fn read_named<R: Print + Input + Files>(
+fn open<R: Files + Env + Alloc>(rt: &R, name: &[u8], i: usize) -> io::Result<R::File> {
+    match str::from_utf8(name) {
+        Ok(path) => fs::open(rt, path),
+        Err(_) => open_link(rt, i),
+    }
+}
+
+// The file of a name, which the i-th argument has.
+fn read_named<R: Print + Input + Files + Env + Alloc>(
     rt: &R,
     err: &impl Print,
     name: &[u8],
+    i: usize,
     t: Totals,
 ) -> io::Result<Totals> {
     if is_dash(name) {
         let mut input = rt.reader();
         return read_text(rt, err, name, &mut input, t);
     }
-    match open(rt, name) {
+    match open(rt, name, i) {
         Ok(mut file) => read_text(rt, err, name, &mut file, t),
         Err(e) => Ok(failed(err, name, e, t)),
     }
@@ -270,7 +282,7 @@ fn argument_error(e: FillError) -> io::Error {
 }
 
 // The file that the i-th argument names.
-fn read_argument<R: Print + Input + Files + Env>(
+fn read_argument<R: Print + Input + Files + Env + Alloc>(
     rt: &R,
     err: &impl Print,
     i: usize,
@@ -278,7 +290,7 @@ fn read_argument<R: Print + Input + Files + Env>(
 ) -> io::Result<Totals> {
     let mut path = [0u8; PATH];
     match rt.arg(i, &mut path) {
-        Ok(n) => read_named(rt, err, &path[..n], t),
+        Ok(n) => read_named(rt, err, &path[..n], i, t),
         Err(e) => Ok(failed(err, b"argument", argument_error(e), t)),
     }
 }
@@ -313,7 +325,7 @@ fn main(rt: HostRuntime) -> io::Result<()> {
         unreadable: 0,
     };
     if n < 2 {
-        t = read_named(&rt, &err, b"-", t)?;
+        t = read_named(&rt, &err, b"-", 0, t)?;
     }
     for i in 1..n {
         t = read_argument(&rt, &err, i, t)?;
