@@ -1,6 +1,6 @@
 #!/usr/bin/env bash
-# Runs tests/entries/main.rattle over the sources, by the interpreter and compiled with checks. It is no crate of the repository, and not proved: whoever
-# holds a struct by reference is proved by a walk by hand, which a driver of tests is not worth. What it calls is proved.
+# Runs tests/entries/main.rattle over the sources, by the interpreter and compiled with checks. It is no crate of the repository, and not proved
+# (docs/DECISIONS.md, "The two long forms"). What it calls is proved.
 set -euo pipefail
 cd "$(dirname "$0")/.."
 work=$(mktemp -d)
