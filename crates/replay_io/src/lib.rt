@@ -43,7 +43,8 @@ pub fn byte_of(w: u64) -> u8
 
 // How much of a buffer a record uses: n, or all of it where n is more, so that a damaged record cannot reach past its buffer.
 pub fn within(n: u64, room: usize) -> usize
-    ensures { result ≤ room }
+    ensures bound { result ≤ room }
+    ensures value { result ≡ min n room }
 {
     if n < room as u64 {
         return n as usize;
