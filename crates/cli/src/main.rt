@@ -18,7 +18,7 @@ use reader::head::{Head, NODES};
 use std::env::{Env, FillError};
 use std::io::{Cursor, Read, Write};
 use std::rt::Files;
-use std::{env, fs, io, str};
+use std::{fs, io, str};
 use text::scan::find;
 
 // Room for a text, for the nodes of an expression that is shown, and for as many values as there are registers.
@@ -238,15 +238,29 @@ const EINVAL: i32 = 22;
 // The folder in which the command ./vosemaqe leaves links to files: a path is text here, and a name need not be.
 const LINKS: &str = "VOSEMAQE_LINKS";
 
-// The file to which the i-th argument's link leads.
-fn open_link<R: Files + Env + Alloc>(rt: &R, i: usize) -> io::Result<R::File> {
-    match env::var(rt, LINKS) {
-        Ok(folder) => fs::open(rt, format!(in rt.alloc(); "{folder}/{i}")?),
+// The link i of a folder. The path is text up to its first byte of 0.
+fn open_in<R: Files>(rt: &R, folder: &[u8], i: usize) -> io::Result<R::File> {
+    let mut path = Cursor::new([0u8; PATH]);
+    path.write_all(folder)?;
+    write!(path, "/{i}")?;
+    let name = path.into_inner();
+    let end = find(&name, 0, 0);
+    match str::from_utf8(&name[..end]) {
+        Ok(link) => fs::open(rt, link),
         Err(_) => Err(io::Error::from_raw_os_error(EINVAL)),
     }
 }
 
-fn open<R: Files + Env + Alloc>(rt: &R, name: &[u8], i: usize) -> io::Result<R::File> {
+// The file to which the i-th argument's link leads.
+fn open_link<R: Files + Env>(rt: &R, i: usize) -> io::Result<R::File> {
+    let mut folder = [0u8; PATH];
+    match rt.var(LINKS, &mut folder) {
+        Ok(n) => open_in(rt, &folder[..n], i),
+        Err(_) => Err(io::Error::from_raw_os_error(EINVAL)),
+    }
+}
+
+fn open<R: Files + Env>(rt: &R, name: &[u8], i: usize) -> io::Result<R::File> {
     match str::from_utf8(name) {
         Ok(path) => fs::open(rt, path),
         Err(_) => open_link(rt, i),
@@ -254,7 +268,7 @@ fn open<R: Files + Env + Alloc>(rt: &R, name: &[u8], i: usize) -> io::Result<R::
 }
 
 // The file of a name, which the i-th argument has.
-fn read_named<R: Print + Input + Files + Env + Alloc>(
+fn read_named<R: Print + Input + Files + Env>(
     rt: &R,
     err: &impl Print,
     name: &[u8],
@@ -282,7 +296,7 @@ fn argument_error(e: FillError) -> io::Error {
 }
 
 // The file that the i-th argument names.
-fn read_argument<R: Print + Input + Files + Env + Alloc>(
+fn read_argument<R: Print + Input + Files + Env>(
     rt: &R,
     err: &impl Print,
     i: usize,

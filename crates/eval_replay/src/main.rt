@@ -3,7 +3,7 @@
 
 use replay_io::within;
 use std::io;
-use std::io::{BufReader, BufWriter, Read, Write};
+use std::io::{Read, Write};
 use table::Dest;
 use value::answer::Answer;
 
@@ -79,11 +79,11 @@ fn replay<R: Read, W: Write>(input: &mut R, output: &mut W) -> io::Result<()> {
 }
 
 fn main(rt: HostRuntime) -> io::Result<()> {
-    let mut input = BufReader::new(rt.alloc(), rt.stdin())?;
-    let mut output = BufWriter::new(rt.alloc(), rt.stdout())?;
+    let mut input = rt.stdin();
+    let mut output = rt.stdout();
     let n = replay_io::read_word(&mut input)?;
     for _ in 0..n {
         replay(&mut input, &mut output)?;
     }
-    output.flush()
+    Ok(())
 }

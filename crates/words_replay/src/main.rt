@@ -8,7 +8,7 @@ use insns::op::{Disp, Imm16, Imm40};
 use insns::{Insn, Made};
 use operands::of_op::{PlainOp, plain_op};
 use std::io;
-use std::io::{BufReader, BufWriter, Read, Write};
+use std::io::{Read, Write};
 
 // An operand of a record as each type. The signed ones are sign-extended to 64 bits.
 fn small_of(x: u64) -> u8 {
@@ -298,11 +298,11 @@ fn replay<R: Read, W: Write>(input: &mut R, output: &mut W) -> io::Result<()> {
 }
 
 fn main(rt: HostRuntime) -> io::Result<()> {
-    let mut input = BufReader::new(rt.alloc(), rt.stdin())?;
-    let mut output = BufWriter::new(rt.alloc(), rt.stdout())?;
+    let mut input = rt.stdin();
+    let mut output = rt.stdout();
     let n = replay_io::read_word(&mut input)?;
     for _ in 0..n {
         replay(&mut input, &mut output)?;
     }
-    output.flush()
+    Ok(())
 }
