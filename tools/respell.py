@@ -29,7 +29,16 @@ CLASH = [
     ("crates/", "tempBase", "temp_base_of"),
 ]
 # definitions with a dash
-DASHED = {"in-kinds": "in_kinds", "in-payloads": "in_payloads", "as-kinds": "as_kinds", "as-payloads": "as_payloads", "or-else": "or_else", "on-lower": "on_lower", "below-upper": "below_upper", "on-upper": "on_upper"}
+DASHED = {
+    "in-kinds": "in_kinds",
+    "in-payloads": "in_payloads",
+    "as-kinds": "as_kinds",
+    "as-payloads": "as_payloads",
+    "or-else": "or_else",
+    "on-lower": "on_lower",
+    "below-upper": "below_upper",
+    "on-upper": "on_upper",
+}
 STRING = re.compile(r'("(?:[^"\\\n]|\\.)*")')
 WORD = re.compile(r"(?<![\w'ℤℕ])[a-z][A-Za-z0-9ℤℕ']*[A-Z][A-Za-z0-9ℤℕ'_]*")
 BEHIND = r"(?<![\w'-])"
