@@ -9,19 +9,19 @@ ghost use Rattle.machine.specs.Run.{out};
 ghost use Rattle.claim.specs.Claim.{Wide};
 ghost use Rattle.claim.specs.Entry.{Whole};
 
+use faults::Fault;
+use value::Value;
 use crate::side_by_side::evaluate_and_run;
 use compile::buffers::Compiled;
 use compile::compile;
 use eval::evaluate;
 use machine::run::Ran;
-use table::Dest;
-use value::answer::Answer;
 
 // What compiling answers, what the tree gives, and what a run of the words reports: of a refused table the number, and no step.
 #[derive(Clone, Copy)]
 pub struct Tried {
-    pub compiled: Compiled,
-    pub tree: Answer,
+    pub compiled: Result<Compiled, Fault>,
+    pub tree: Result<Value, Fault>,
     pub ran: Ran,
 }
 
@@ -45,7 +45,7 @@ pub fn compile_evaluate_and_run(
     nodes: &[u64],
     params: u64,
     locals: u64,
-    dest: Dest,
+    dest: Option<u64>,
     code: &mut [u64],
     slot_kinds: &mut [u8],
     slot_payloads: &mut [u64],
@@ -63,7 +63,7 @@ pub fn compile_evaluate_and_run(
     are_wide(payloads);
     let compiled = compile(nodes, params, locals, dest, code, slot_kinds, slot_payloads);
     match compiled {
-        Compiled::Done(words, slots, reg, frame) => {
+        Ok(Compiled { words, slots, register: reg, frame }) => {
             let both = evaluate_and_run(
                 nodes,
                 params,
@@ -83,7 +83,7 @@ pub fn compile_evaluate_and_run(
                 ran: report,
             }
         }
-        Compiled::Refused(n) => {
+        Err(n) => {
             let value = evaluate(nodes, params, locals, kinds, payloads);
             let report = Ran {
                 number: n,

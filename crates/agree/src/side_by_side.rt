@@ -3,16 +3,17 @@ ghost use Rattle.value.specs.Answer.{result_of};
 ghost use Rattle.machine.specs.Run.{out};
 ghost use Rattle.claim.specs.Entry.{Promised};
 
+use faults::Fault;
+use value::Value;
 use eval::evaluate;
 use machine::run::Ran;
 use run::run;
-use value::answer::Answer;
 
 // What a run reports, and what the tree gives.
 #[derive(Clone, Copy)]
 pub struct Both {
     pub ran: Ran,
-    pub tree: Answer,
+    pub tree: Result<Value, Fault>,
 }
 
 // Evaluates a table on the registers' values, then runs words with those registers. Where the words are those of the table, the two agree.

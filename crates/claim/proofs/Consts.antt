@@ -1,4 +1,7 @@
 -- The constants of a compiled table are literals of its nodes, so that the slots that compiling leaves lend them, with Nil behind.
+use Rattle.std.specs.Prelude.{Option, Some, None}
+use Rattle.insns.specs.declared.op.Imm16.{Imm16}
+use Rattle.fold.specs.declared.Tail.{Tail}
 use mathlib.Core.Path.{◌≡◌, refl, ap}
 use mathlib.Core.Bool.{Bool, true, false, not, cond}
 use mathlib.Core.List.{List, [], ◌∷◌, ◌++◌, map}
@@ -16,12 +19,6 @@ use Rattle.value.proofs.RoundTrip as Pair
 use Rattle.table.specs.Table.{kind_at, payload_at, child1, child2, child3, depth_at}
 use Rattle.table.specs.Tree.{Tree, leaf, unary, binary, ternary, Leaf, nil, yep, nope, int, float, ref, Unary, minus, not', Cmp, Binary, arith, cmp, and, or, Kind, leaf_kind, unary_kind, binary_kind, ternary_kind, no_kind, kinds, build, tree_at, tree}
 use Rattle.table.specs.Tree as Tree
-use Rattle.emit.specs.declared.state.Dst.{Dst}
-use Rattle.emit.specs.declared.state.Dst.TheVariants.{Any, To}
-use Rattle.fold.specs.declared.Fold.{Fold}
-use Rattle.fold.specs.declared.Fold.TheVariants.{Into, General}
-use Rattle.fold.specs.declared.literal.Imm.{Imm}
-use Rattle.fold.specs.declared.literal.Imm.TheVariants.{Imm16, NoImm}
 use Rattle.insns.specs.declared.op.Three.{Three}
 use Rattle.fold.specs.Literal.{fits_imm40, as_imm16}
 use Rattle.fold.specs.Fold.{fold_of, takes_shift}
@@ -43,7 +40,7 @@ all_held [] ds h g = g
 all_held (c ∷ cs) ds h g = (h.0, all_held cs ds h.1 g)
 
 abbrev HeldV : ValueF → Type 0
-HeldV v = (dst : Dst) (n : ℕ) (ks : List Datum) → AllHeld (v dst n ks).consts
+HeldV v = (dst : Option ℕ) (n : ℕ) (ks : List Datum) → AllHeld (v dst n ks).consts
 
 abbrev HeldB : BranchF → Type 0
 HeldB br = (sense : Bool) (n : ℕ) (ks : List Datum) → AllHeld (br sense n ks).consts
@@ -88,22 +85,22 @@ leaf-held (int z) h dst n ks = int-held (fits_imm40 z) z h dst n ks
 leaf-held (float p) h dst n ks = const-held (Val.float p) h ks
 leaf-held (ref r) h dst n ks = tt
 
-two-held : (v u : ValueF) (n : ℕ) (ks : List Datum) → HeldV v → HeldV u → AllHeld ((v Any n ks).consts ++ (second v u n ks).consts)
+two-held : (v u : ValueF) (n : ℕ) (ks : List Datum) → HeldV v → HeldV u → AllHeld ((v None n ks).consts ++ (second v u n ks).consts)
 two-held v u n ks a b =
-    let A = v Any n ks in all_held A.consts (second v u n ks).consts (a Any n ks) (b Any A.next (ks ++ A.consts))
+    let A = v None n ks in all_held A.consts (second v u n ks).consts (a None n ks) (b None A.next (ks ++ A.consts))
 
-arith-held : (f : Fold) (o : Three) (v v₁ u : ValueF) → HeldV v → HeldV v₁ → HeldV u → HeldV (arith_f f o v v₁ u)
-arith-held General o v v₁ u a a₁ b dst n ks = two-held v u n ks a b
-arith-held (Into tail) o v v₁ u a a₁ b dst n ks = operand (takes_shift tail) Any n ks
+arith-held : (f : Option Tail) (o : Three) (v v₁ u : ValueF) → HeldV v → HeldV v₁ → HeldV u → HeldV (arith_f f o v v₁ u)
+arith-held None o v v₁ u a a₁ b dst n ks = two-held v u n ks a b
+arith-held (Some tail) o v v₁ u a a₁ b dst n ks = operand (takes_shift tail) None n ks
   where
     operand : (t : Bool) → HeldV (cond t v₁ v)
     operand true = a₁
     operand false = a
 
-compare-held : (c : Cmp) (l r : Imm) (v u : ValueF) → HeldV v → HeldV u → HeldB (compare_f c l r v u)
-compare-held c l (Imm16 z) v u a b sense n ks = a Any n ks
-compare-held c (Imm16 z) NoImm v u a b sense n ks = b Any n ks
-compare-held c NoImm NoImm v u a b sense n ks = two-held v u n ks a b
+compare-held : (c : Cmp) (l r : Option Imm16) (v u : ValueF) → HeldV v → HeldV u → HeldB (compare_f c l r v u)
+compare-held c l (Some z) v u a b sense n ks = a None n ks
+compare-held c (Some z) None v u a b sense n ks = b None n ks
+compare-held c None None v u a b sense n ks = two-held v u n ks a b
 
 junc-held : (z : Bool) (x y : BranchF) → HeldB x → HeldB y → HeldB (junc_b z x y)
 junc-held z x y a b sense n ks = let X = x z n ks in all_held X.consts (y sense n (ks ++ X.consts)).consts (a z n ks) (b sense n (ks ++ X.consts))
@@ -117,22 +114,22 @@ tern-held br v u x a b dst n ks =
     let d = d_reg dst n in
     let m = d_next dst n in
     let X = br false m ks in
-    let A = into_f (v (To d) m (ks ++ X.consts)) d m in
-    let E = into_f (u (To d) m (ks ++ X.consts ++ A.consts)) d m in
-    all_held (X.consts ++ A.consts) E.consts (all_held X.consts A.consts (x false m ks) (a (To d) m (ks ++ X.consts)))
-    (b (To d) m (ks ++ X.consts ++ A.consts))
+    let A = into_f (v (Some d) m (ks ++ X.consts)) d m in
+    let E = into_f (u (Some d) m (ks ++ X.consts ++ A.consts)) d m in
+    all_held (X.consts ++ A.consts) E.consts (all_held X.consts A.consts (x false m ks) (a (Some d) m (ks ++ X.consts)))
+    (b (Some d) m (ks ++ X.consts ++ A.consts))
 
 condition-held : (br : BranchF) (v : ValueF) → HeldB br → HeldV v → HeldF (record { value = cond_f br; branch = br; first = v })
 condition-held br v a b = record { values = cond-held br a; branches = a; firsts = b }
 
 unary-held : (o : Unary) (F : Frag) → HeldF F → HeldF (unary_n o F)
-unary-held minus F h = record { values = λ dst n ks. h.values Any n ks; branches = λ sense n ks. h.values Any n ks; firsts = h.values }
-unary-held not' F h = record { values = λ dst n ks. h.values Any n ks; branches = λ sense n ks. h.branches (not sense) n ks; firsts = h.values }
+unary-held minus F h = record { values = λ dst n ks. h.values None n ks; branches = λ sense n ks. h.values None n ks; firsts = h.values }
+unary-held not' F h = record { values = λ dst n ks. h.values None n ks; branches = λ sense n ks. h.branches (not sense) n ks; firsts = h.values }
 
 binary-held : (o : Binary) (x y : Tree) (F G : Frag) → HeldF F → HeldF G → HeldF (binary_n o x y F G)
 binary-held (arith o) x y F G h k =
     let a = arith-held (fold_of o x y) (three_of o) F.value F.first G.value h.values h.firsts k.values in
-    record { values = a; branches = λ sense n ks. a Any n ks; firsts = h.values }
+    record { values = a; branches = λ sense n ks. a None n ks; firsts = h.values }
 binary-held (cmp c) x y F G h k =
     condition-held (compare_f c (as_imm16 x) (as_imm16 y) F.value G.value) F.value (compare-held c (as_imm16 x) (as_imm16 y) F.value G.value h.values k.values) h.values
 binary-held and x y F G h k =
@@ -142,15 +139,15 @@ binary-held or x y F G h k =
 
 held : (t : Tree) → TreeHeld t → HeldF (frag t)
 unfolding frag TreeHeld
-held (leaf l) h = record { values = leaf-held l h; branches = λ sense n ks. leaf-held l h Any n ks; firsts = leaf-held l h }
+held (leaf l) h = record { values = leaf-held l h; branches = λ sense n ks. leaf-held l h None n ks; firsts = leaf-held l h }
 held (unary o a) h = unary-held o (frag a) (held a h)
 held (binary o a b) h = binary-held o a b (frag a) (frag b) (held a h.0) (held b h.1)
 held (ternary c a b) h =
     let x = held c h.0 in
     let v = tern-held (frag c).branch (frag a).value (frag b).value x.branches (held a h.1).values (held b h.2).values in
-    record { values = v; branches = λ sense n ks. v Any n ks; firsts = x.values }
+    record { values = v; branches = λ sense n ks. v None n ks; firsts = x.values }
 
-pub frag-held : (t : Tree) → TreeHeld t → (dst : Dst) (n : ℕ) (ks : List Datum) → AllHeld ((frag t).value dst n ks).consts
+pub frag-held : (t : Tree) → TreeHeld t → (dst : Option ℕ) (n : ℕ) (ks : List Datum) → AllHeld ((frag t).value dst n ks).consts
 frag-held t h = (held t h).values
 
 -- ---- the tree of a table of 64-bit words

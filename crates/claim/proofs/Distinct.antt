@@ -1,4 +1,7 @@
 -- Each constant of a fragment is new to the slots before it, and one of the fragment's words loads it.
+use Rattle.std.specs.Prelude.{Option, Some, None}
+use Rattle.insns.specs.declared.op.Imm16.{Imm16}
+use Rattle.fold.specs.declared.Tail.{Tail}
 use mathlib.Core.Path.{◌≡◌, refl, sym, ap, subst, ◌∙◌}
 use mathlib.Core.Bool.{Bool, true, false, not, cond}
 use mathlib.Core.List.{List, [], ◌∷◌, ◌++◌, append_assoc, append-nil}
@@ -14,16 +17,8 @@ use Rattle.int64.proofs.sign.Laws.{never}
 use Rattle.value.specs.Value.{Datum}
 use Rattle.value.specs.Value as Val
 use Rattle.table.specs.Tree.{Tree, leaf, unary, binary, ternary, Leaf, nil, yep, nope, int, float, ref, Unary, minus, not', Cmp, Binary, arith, cmp, and, or}
-use Rattle.table.specs.declared.Dest.{Dest}
-use Rattle.table.specs.declared.Dest.TheVariants as D
 use Rattle.insns.specs.declared.op.Op.{Op}
 use Rattle.insns.specs.declared.op.Three.{Three}
-use Rattle.emit.specs.declared.state.Dst.{Dst}
-use Rattle.emit.specs.declared.state.Dst.TheVariants.{Any, To}
-use Rattle.fold.specs.declared.Fold.{Fold}
-use Rattle.fold.specs.declared.Fold.TheVariants.{Into, General}
-use Rattle.fold.specs.declared.literal.Imm.{Imm}
-use Rattle.fold.specs.declared.literal.Imm.TheVariants.{Imm16, NoImm}
 use Rattle.fold.specs.Literal.{fits_imm40, as_imm16}
 use Rattle.fold.specs.Fold.{fold_of, minus_one, takes_shift}
 use Rattle.fold.specs.Opcodes.{three_of}
@@ -134,7 +129,7 @@ module _ (v : Datum) (self : alike v v ≡ true) (ks : List Datum) where
 -- ---- fragments
 
 abbrev GoodV : ValueF → Type 0
-GoodV v = (dst : Dst) (n : ℕ) (ks : List Datum) → Good ks (v dst n ks).consts (v dst n ks).code
+GoodV v = (dst : Option ℕ) (n : ℕ) (ks : List Datum) → Good ks (v dst n ks).consts (v dst n ks).code
 
 abbrev GoodB : BranchF → Type 0
 GoodB br = (sense : Bool) (n : ℕ) (ks : List Datum) (m : ℕ) → Good ks (br sense n ks).consts ((br sense n ks).code m)
@@ -145,17 +140,17 @@ record GoodF (F : Frag) : Type 0 where
   firsts : GoodV F.first
 
 -- one operand, then more words
-one-good : (v : ValueF) (n : ℕ) (ks : List Datum) (more : List Op) → GoodV v → Good ks (v Any n ks).consts ((v Any n ks).code ++ more)
-one-good v n ks more a = lift (λ k. in_left (v Any n ks).code more) (a Any n ks)
+one-good : (v : ValueF) (n : ℕ) (ks : List Datum) (more : List Op) → GoodV v → Good ks (v None n ks).consts ((v None n ks).code ++ more)
+one-good v n ks more a = lift (λ k. in_left (v None n ks).code more) (a None n ks)
 
 -- two operands, then more words
 two_good :
     (v u : ValueF) (n : ℕ) (ks : List Datum) (more : List Op) → GoodV v → GoodV u →
-    Good ks ((v Any n ks).consts ++ (second v u n ks).consts) ((v Any n ks).code ++ (second v u n ks).code ++ more)
+    Good ks ((v None n ks).consts ++ (second v u n ks).consts) ((v None n ks).code ++ (second v u n ks).code ++ more)
 two_good v u n ks more a b =
-    let A = v Any n ks in
+    let A = v None n ks in
     let B = second v u n ks in
-    both ks A.consts B.consts (a Any n ks) (b Any A.next (ks ++ A.consts)) (λ k i. in_left (A.code ++ B.code) more (in_left A.code B.code i))
+    both ks A.consts B.consts (a None n ks) (b None A.next (ks ++ A.consts)) (λ k i. in_left (A.code ++ B.code) more (in_left A.code B.code i))
     (λ k i. in_left (A.code ++ B.code) more (in_right A.code B.code i))
 
 into-good : {ks : List Datum} (v : Vf) (d n : ℕ) → Good ks v.consts v.code → Good ks (into_f v d n).consts (into_f v d n).code
@@ -163,7 +158,7 @@ into-good v d n g = lift (λ k. in_left v.code (moved d v.reg)) g
 
 -- a test and both sides
 join-good :
-    (dst : Dst) (n : ℕ) (ks : List Datum) (x : Bf) (a b : Vf) → ((m : ℕ) → Good ks x.consts (x.code m)) → Good (ks ++ x.consts) a.consts a.code →
+    (dst : Option ℕ) (n : ℕ) (ks : List Datum) (x : Bf) (a b : Vf) → ((m : ℕ) → Good ks x.consts (x.code m)) → Good (ks ++ x.consts) a.consts a.code →
     Good (ks ++ x.consts ++ a.consts) b.consts b.code → Good ks (join_f dst n x a b).consts (join_f dst n x a b).code
 join-good dst n ks x a b gx ga gb =
     let X = x.code (suc (length a.code)) in
@@ -187,18 +182,18 @@ leaf-good (int z) dst n ks = int-good (fits_imm40 z) z dst n ks
 leaf-good (float p) dst n ks = const-good (Val.float p) (eq-eqb p p refl) ks (d_reg dst n)
 leaf-good (ref r) dst n ks = nothing ks _
 
-arith-good : (f : Fold) (o : Three) (v v₁ u : ValueF) → GoodV v → GoodV v₁ → GoodV u → GoodV (arith_f f o v v₁ u)
-arith-good General o v v₁ u a a₁ b dst n ks = two_good v u n ks _ a b
-arith-good (Into tail) o v v₁ u a a₁ b dst n ks = one-good (cond (takes_shift tail) v₁ v) n ks _ (operand (takes_shift tail))
+arith-good : (f : Option Tail) (o : Three) (v v₁ u : ValueF) → GoodV v → GoodV v₁ → GoodV u → GoodV (arith_f f o v v₁ u)
+arith-good None o v v₁ u a a₁ b dst n ks = two_good v u n ks _ a b
+arith-good (Some tail) o v v₁ u a a₁ b dst n ks = one-good (cond (takes_shift tail) v₁ v) n ks _ (operand (takes_shift tail))
   where
     operand : (t : Bool) → GoodV (cond t v₁ v)
     operand true = a₁
     operand false = a
 
-compare-good : (c : Cmp) (l r : Imm) (v u : ValueF) → GoodV v → GoodV u → GoodB (compare_f c l r v u)
-compare-good c l (Imm16 z) v u a b sense n ks m = one-good v n ks _ a
-compare-good c (Imm16 z) NoImm v u a b sense n ks m = one-good u n ks _ b
-compare-good c NoImm NoImm v u a b sense n ks m = two_good v u n ks _ a b
+compare-good : (c : Cmp) (l r : Option Imm16) (v u : ValueF) → GoodV v → GoodV u → GoodB (compare_f c l r v u)
+compare-good c l (Some z) v u a b sense n ks m = one-good v n ks _ a
+compare-good c (Some z) None v u a b sense n ks m = one-good u n ks _ b
+compare-good c None None v u a b sense n ks m = two_good v u n ks _ a b
 
 junc-good : (z : Bool) (x y : BranchF) → GoodB x → GoodB y → GoodB (junc_b z x y)
 junc-good z x y a b sense n ks m =
@@ -213,8 +208,8 @@ cond-good br a dst n ks =
     let d = d_reg dst n in
     let m = d_next dst n in
     let X = br true m ks in
-    let A = load_f raw_false (To d) m ks in
-    let B = load_f raw_true (To d) m ks in
+    let A = load_f raw_false (Some d) m ks in
+    let B = load_f raw_true (Some d) m ks in
     join-good dst n ks X A B (a true m ks) (nothing (ks ++ X.consts) A.code) (nothing (ks ++ X.consts ++ []) B.code)
 
 tern-good : (br : BranchF) (v u : ValueF) → GoodB br → GoodV v → GoodV u → GoodV (tern_f br v u)
@@ -222,10 +217,10 @@ tern-good br v u x a b dst n ks =
     let d = d_reg dst n in
     let m = d_next dst n in
     let X = br false m ks in
-    let A = v (To d) m (ks ++ X.consts) in
-    let B = u (To d) m (ks ++ X.consts ++ A.consts) in
-    join-good dst n ks X (into_f A d m) (into_f B d m) (x false m ks) (into-good A d m (a (To d) m (ks ++ X.consts)))
-    (into-good B d m (b (To d) m (ks ++ X.consts ++ A.consts)))
+    let A = v (Some d) m (ks ++ X.consts) in
+    let B = u (Some d) m (ks ++ X.consts ++ A.consts) in
+    join-good dst n ks X (into_f A d m) (into_f B d m) (x false m ks) (into-good A d m (a (Some d) m (ks ++ X.consts)))
+    (into-good B d m (b (Some d) m (ks ++ X.consts ++ A.consts)))
 
 condition-good : (br : BranchF) (v : ValueF) → GoodB br → GoodV v → GoodF (record { value = cond_f br; branch = br; first = v })
 condition-good br v a b = record { values = cond-good br a; branches = a; firsts = b }
@@ -270,9 +265,9 @@ good (ternary c a b) =
       firsts = x.values;
     }
 
-whole-good : (t : Tree) (dest : Dest) (n : ℕ) → Good [] (whole t dest n).consts (whole t dest n).code
-whole-good t D.None n = (good t).values Any n []
-whole-good t (D.Reg d) n = into-good ((frag t).value (To d) n []) d n ((good t).values (To d) n [])
+whole-good : (t : Tree) (dest : Option ℕ) (n : ℕ) → Good [] (whole t dest n).consts (whole t dest n).code
+whole-good t None n = (good t).values None n []
+whole-good t (Some d) n = into-good ((frag t).value (Some d) n []) d n ((good t).values (Some d) n [])
 
 -- ---- an accepted table
 

@@ -1,4 +1,5 @@
 -- The machine runs nop and the opcodes that the generator emits, no other; and each of them is emitted, by a small table that is compiled here.
+use Rattle.std.specs.Prelude.{Option, Some, None}
 use mathlib.Core.Path.{◌≡◌, refl, sym, ap, subst, ◌∙◌}
 use mathlib.Core.Bool.{Bool, true, false, not, ◌&&◌, ◌||◌}
 use mathlib.Core.List.{List, [], ◌∷◌, ◌++◌}
@@ -9,12 +10,10 @@ use lib.ListN.{length, get_or}
 use borrow.Author.Tests.{ltb-true, ltb-false, leb-true, lt-leb, eqb-true, eqb-false}
 use Rattle.faults.specs.Limits.{max_registers}
 use Rattle.faults.specs.Faults as Faults
-use Rattle.value.specs.Answer.{Result}
+use Rattle.value.specs.Answer.{Answer}
 use Rattle.table.specs.Table.{check_of}
 use Rattle.table.specs.Table as Table
 use Rattle.table.specs.Tree as Tree
-use Rattle.table.specs.declared.Dest.{Dest}
-use Rattle.table.specs.declared.Dest.TheVariants.{None, Reg}
 use Rattle.insns.specs.declared.op.Op.{Op}
 use Rattle.insns.specs.declared.op.Bare.{Bare}
 use Rattle.insns.specs.declared.op.One.{One}
@@ -46,7 +45,7 @@ use Rattle.claim.proofs.Refusals.{refusals}
 
 -- ---- the machine halts at every other opcode
 
-runs : (reg slot : ℕ → Result) (i : Op) → halts (effect_of reg slot i) ≡ not (is_nop (opcode_of i) || is_emitted (opcode_of i))
+runs : (reg slot : ℕ → Answer) (i : Op) → halts (effect_of reg slot i) ≡ not (is_nop (opcode_of i) || is_emitted (opcode_of i))
 runs reg slot (Op.Bare Bare.Panic) = refl
 runs reg slot (Op.Bare Bare.Breakpoint) = refl
 runs reg slot (Op.Bare Bare.Nop) = refl
@@ -133,7 +132,7 @@ at-word (i ∷ js) h zero lt = (i, refl, h.0)
 at-word (i ∷ js) h (suc k) lt = at-word js h.1 k (omega arith)
 
 only :
-    (ws : List ℕ) (params locals : ℕ) (dest : Dest) (r : ℕ) (s : State) → Accepted ws params locals dest r s → (k : ℕ) → k < length s.words → IsEmitted s k
+    (ws : List ℕ) (params locals : ℕ) (dest : Option ℕ) (r : ℕ) (s : State) → Accepted ws params locals dest r s → (k : ℕ) → k < length s.words → IsEmitted s k
 only ws params locals dest r s a =
     let q = known ws params locals dest r s a in
     let F = frag_of ws params locals dest in
@@ -149,7 +148,7 @@ record Sample : Type 0 where
   op : ℕ
   at : ℕ
   table : List ℕ
-  dest : Dest
+  dest : Option ℕ
 
 abbrev code : Sample → List ℕ
 code x = words_of (frag_of x.table 2 0 x.dest).code
@@ -205,7 +204,7 @@ first op table = record { op = op; at = 0; table = table; dest = None }
 abbrev tables : List Sample
 tables =
     first 3 (node 0 0 0 1)
-    ∷ record { op = 4; at = 0; table = node 5 0 0 1; dest = Reg 1 }
+    ∷ record { op = 4; at = 0; table = node 5 0 0 1; dest = Some 1 }
     ∷ first 5 (node 4 0 0 1)
     ∷ first 8 (of_refs 11) ∷ first 9 (of_refs 12) ∷ first 10 (of_refs 8) ∷ first 11 (of_refs 9) ∷ first 12 (of_refs 10)
     ∷ first 14 (with_one 11) ∷ first 15 (with_one 12) ∷ first 16 (with_one 8)

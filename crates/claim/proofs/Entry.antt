@@ -1,4 +1,6 @@
 -- One call that compiles, evaluates and runs: what it is lent is 64-bit words, and its two ways out are as claimed.
+use Rattle.std.specs.Prelude.{Option, Result, Ok, Err}
+use Rattle.faults.specs.declared.Fault.{Fault}
 use mathlib.Core.Path.{◌≡◌, refl, sym, ap, ◌∙◌, subst}
 use mathlib.Core.Bool.{Bool, true, false}
 use mathlib.Core.List.{List, ◌++◌, map}
@@ -9,13 +11,11 @@ use lib.ListN.{length, get_or, take, replicate, length-append, get_or-eq_default
 use lib.Seq.{take_at, length-take-le}
 use borrow.Author.Tests.{ltb-true, ltb-false}
 use Rattle.faults.specs.Limits.{max_nodes}
-use Rattle.value.specs.Answer.{Result}
-use Rattle.table.specs.declared.Dest.{Dest}
+use Rattle.value.specs.Answer.{Answer}
 use Rattle.eval.specs.Evaluate.{evaluate_of}
 use Rattle.machine.specs.Run.{Out, out, ran}
 use Rattle.emit.specs.State.{Res, done, fail, State}
 use Rattle.compile.specs.declared.buffers.Compiled.{Compiled}
-use Rattle.compile.specs.declared.buffers.Compiled.TheVariants.{Done, Refused}
 use Rattle.compile.specs.Compile.{compile_of}
 use Rattle.compile.specs.Buffers.{Compiles, padded, words_of}
 use Rattle.compile.proofs.Once.{Alike, compiles-once}
@@ -58,13 +58,13 @@ record Front (w : ℕ) (code : List ℕ) (m : Res (ℕ × State)) : Type 0 where
   count : length (words_of m) ≡ w
   words : take w code ≡ words_of m
 
-front : (m : Res (ℕ × State)) {q : Compiled} {code sks sps : List ℕ} {c k p w n r f : ℕ} → Compiles q m code sks sps c k p → q ≡ Done w n r f → Front w code m
+front : (m : Res (ℕ × State)) {q : Result Compiled Fault} {code sks sps : List ℕ} {c k p w n r f : ℕ} → Compiles q m code sks sps c k p → q ≡ Ok (record { words = w; slots = n; register = r; frame = f }) → Front w code m
 front (done x) {c = c} {w = w} h e =
     let z : length x.1.words ≡ w = cc h.answer in
     record { count = z; words = rw h.words (take_at x.1.words _ w z) }
 front (fail n) h e = let z : ◌≡◌ {A = ℕ} 0 1 = cc h.answer in absurd (omega arith)
 
-pub front_fits : {m : Res (ℕ × State)} {q : Compiled} {code sks sps : List ℕ} {c k p w n r f : ℕ} → Compiles q m code sks sps c k p → q ≡ Done w n r f → length code ≡ c → w ≤ length code
+pub front_fits : {m : Res (ℕ × State)} {q : Result Compiled Fault} {code sks sps : List ℕ} {c k p w n r f : ℕ} → Compiles q m code sks sps c k p → q ≡ Ok (record { words = w; slots = n; register = r; frame = f }) → length code ≡ c → w ≤ length code
 front_fits {m} {code = code} {c = c} h e l =
     let a = (front m h e).count in
     let b : length code ≡ length (padded (words_of m) c) = ap length h.words in
@@ -77,10 +77,10 @@ front-count n l h = sym (length-take-le n l h)
 
 -- ---- the two ways out
 
-module _ (nodes : List ℕ) (params locals : ℕ) (dest : Dest) {c k p : ℕ} (ks ps : List ℕ) (budget : ℕ) {q : Compiled} {code sks sps : List ℕ} {res : Result} where
+module _ (nodes : List ℕ) (params locals : ℕ) (dest : Option ℕ) {c k p : ℕ} (ks ps : List ℕ) (budget : ℕ) {q : Result Compiled Fault} {code sks sps : List ℕ} {res : Answer} where
   pub accepted-whole :
-      {w n r f : ℕ} {o : Out} → Wide nodes → Wide ps → Compiles q (compile_of nodes params locals dest max_nodes c (min k p)) code sks sps c k p → q ≡ Done w n r f →
-      Promised nodes params locals (take w code) sks sps ks ps budget res o → Whole nodes params locals dest c k p ks ps budget (Done w n r f) code sks sps res o
+      {w n r f : ℕ} {o : Out} → Wide nodes → Wide ps → Compiles q (compile_of nodes params locals dest max_nodes c (min k p)) code sks sps c k p → q ≡ Ok (record { words = w; slots = n; register = r; frame = f }) →
+      Promised nodes params locals (take w code) sks sps ks ps budget res o → Whole nodes params locals dest c k p ks ps budget (Ok (record { words = w; slots = n; register = r; frame = f })) code sks sps res o
   accepted-whole {w} {n} {r} {f} {o} a b h e i = rw (sym e) (go (compile_of nodes params locals dest max_nodes c (min k p)) refl h)
     where
       go : (m : Res (ℕ × State)) → m ≡ compile_of nodes params locals dest max_nodes c (min k p) → Compiles q m code sks sps c k p → Whole nodes params locals dest c k p ks ps budget q code sks sps res o
@@ -107,8 +107,8 @@ module _ (nodes : List ℕ) (params locals : ℕ) (dest : Dest) {c k p : ℕ} (k
           }
 
   pub refused-whole :
-      {n : ℕ} → Compiles q (compile_of nodes params locals dest max_nodes c (min k p)) code sks sps c k p → q ≡ Refused n → res ≡ evaluate_of nodes params locals ks ps →
-      Whole nodes params locals dest c k p ks ps budget (Refused n) code sks sps res (out (ran n 0 0) ks ps)
+      {n : Fault} → Compiles q (compile_of nodes params locals dest max_nodes c (min k p)) code sks sps c k p → q ≡ Err n → res ≡ evaluate_of nodes params locals ks ps →
+      Whole nodes params locals dest c k p ks ps budget (Err n) code sks sps res (out (ran n 0 0) ks ps)
   refused-whole {n} h e i = rw (sym e) (go (compile_of nodes params locals dest max_nodes c (min k p)) refl h)
     where
       go : (m : Res (ℕ × State)) → m ≡ compile_of nodes params locals dest max_nodes c (min k p) → Compiles q m code sks sps c k p → Whole nodes params locals dest c k p ks ps budget q code sks sps res (out (ran n 0 0) ks ps)
@@ -128,7 +128,7 @@ module _ (nodes : List ℕ) (params locals : ℕ) (dest : Dest) {c k p : ℕ} (k
 
 -- what the whole call answers and leaves
 pub whole-once :
-    {nodes : List ℕ} {params locals : ℕ} {dest : Dest} {c k p : ℕ} {ks ps : List ℕ} {budget : ℕ} {q q' : Compiled} {code code' sks sks' sps sps' : List ℕ} {res res' : Result} {o o' : Out} →
+    {nodes : List ℕ} {params locals : ℕ} {dest : Option ℕ} {c k p : ℕ} {ks ps : List ℕ} {budget : ℕ} {q q' : Result Compiled Fault} {code code' sks sks' sps sps' : List ℕ} {res res' : Answer} {o o' : Out} →
     Whole nodes params locals dest c k p ks ps budget q code sks sps res o → Whole nodes params locals dest c k p ks ps budget q' code' sks' sps' res' o' →
     Alike q q' code code' sks sks' sps sps' × (res ≡ res') × (o ≡ o')
 whole-once {ks = ks} {ps = ps} {budget = budget} h h' =

@@ -1,4 +1,5 @@
 -- What compiling a table gives: its tree's fragment, which takes no more than the table needs; or a refusal, and then something is lacking.
+use Rattle.std.specs.Prelude.{Option, Some, None}
 use mathlib.Core.Path.{◌≡◌, refl, sym, ap, subst, ◌∙◌}
 use mathlib.Core.List.{List, []}
 use Prim.Native.Nat.{ℕ, zero, suc, ◌+◌, ◌-◌, ◌*◌, ◌≤◌, ◌<◌, ◌^◌, max}
@@ -11,10 +12,7 @@ use Rattle.faults.specs.Limits.{max_registers}
 use Rattle.faults.proofs.Faults.{none_both, failed}
 use Rattle.table.specs.Table.{node_count, depth_at, temp_base_of, shape_fault, layout_fault, dest_fault, nodes_fault, last_fault, check_of}
 use Rattle.table.specs.Tree.{Tree, tree, RefsBelow}
-use Rattle.table.specs.declared.Dest.{Dest}
-use Rattle.table.specs.declared.Dest.TheVariants.{None, Reg}
 use Rattle.table.proofs.Whole as Table
-use Rattle.emit.specs.declared.state.Dst.TheVariants.{Any, To}
 use Rattle.emit.specs.State.{Res, done, fail, State}
 use Rattle.codegen.specs.Gen.{gen}
 use Rattle.compile.specs.Compile.{start, dst_of, root_d, generated, accepted, compile_of}
@@ -29,41 +27,41 @@ use Rattle.claim.proofs.fragments.Bridge.{FineI, Ahead, gen-met, into-met}
 
 -- ---- the whole expression as a fragment
 
-abbrev pub DestLow : Dest → ℕ → Type 0
+abbrev pub DestLow : Option ℕ → ℕ → Type 0
 DestLow None n = Unit {0}
-DestLow (Reg d) n = d < n
+DestLow (Some d) n = d < n
 
-pub low-more : (dest : Dest) {m n : ℕ} → m ≤ n → DestLow dest m → DestLow dest n
+pub low-more : (dest : Option ℕ) {m n : ℕ} → m ≤ n → DestLow dest m → DestLow dest n
 low-more None up h = tt
-low-more (Reg d) up h = omega arith
+low-more (Some d) up h = omega arith
 
-abbrev pub whole : Tree → Dest → ℕ → Vf
-whole t None n = (frag t).value Any n []
-whole t (Reg d) n = into_f ((frag t).value (To d) n []) d n
+abbrev pub whole : Tree → Option ℕ → ℕ → Vf
+whole t None n = (frag t).value None n []
+whole t (Some d) n = into_f ((frag t).value (Some d) n []) d n
 
 -- what compiling gives: the register and the state
 abbrev pub made : ℕ → ℕ → ℕ → Vf → ℕ × State
 made cap slot_cap n F = (F.reg, st cap slot_cap (words_of F.code) F.consts F.next (max n F.need))
 
 root-met :
-    (need : Amounts) (room cap slot_cap : ℕ) (near : need.words ≤ far) (named : need.slots ≤ 2 ^ 32) (t : Tree) (dest : Dest) (base n : ℕ) → RefsBelow base t →
+    (need : Amounts) (room cap slot_cap : ℕ) (near : need.words ≤ far) (named : need.slots ≤ 2 ^ 32) (t : Tree) (dest : Option ℕ) (base n : ℕ) → RefsBelow base t →
     base ≤ max_registers → n ≤ max_registers → DestLow dest max_registers → Ahead need room cap slot_cap near named (needs t) room [] [] n →
     Met (Lacking need room cap slot_cap) (root_d (gen t).value (dst_of dest) room (start cap slot_cap n)) (made cap slot_cap n (whole t dest n))
     (FineI (needs t) n (whole t dest n))
 unfolding root_d
 root-met need room cap slot_cap near named t None base n h up top low ah =
-    met-then ((gen-met need room cap slot_cap near named t base h up).values Any room [] [] n n top tt ah)
+    met-then ((gen-met need room cap slot_cap near named t base h up).values None room [] [] n n top tt ah)
     (λ f. record { fits = f.fits; reach = f.reach; slots = f.slots; words = omega arith })
-root-met need room cap slot_cap near named t (Reg d) base n h up top low ah =
+root-met need room cap slot_cap near named t (Some d) base n h up top low ah =
     into-met need room cap slot_cap near named (gen t).value (frag t).value (needs t) (gen-met need room cap slot_cap near named t base h up).values
     d room [] [] n n top low ah
 
 -- ---- a table that the check accepts
 
 pub check-parts :
-    (ws : List ℕ) (params locals : ℕ) (dest : Dest) → check_of ws params locals dest ≡ 0 →
-    (shape_fault ws ≡ 0) × (layout_fault params locals ≡ 0) × (dest_fault dest (params + locals) ≡ 0)
-    × (nodes_fault ws (params + locals) (node_count ws) or_else last_fault ws ≡ 0)
+    (ws : List ℕ) (params locals : ℕ) (dest : Option ℕ) → check_of ws params locals dest ≡ Ok tt →
+    (shape_fault ws ≡ Ok tt) × (layout_fault params locals ≡ Ok tt) × (dest_fault dest (params + locals) ≡ Ok tt)
+    × (nodes_fault ws (params + locals) (node_count ws) or_else last_fault ws ≡ Ok tt)
 unfolding check_of
 check-parts ws params locals dest h =
     let a = none_both (shape_fault ws) _ h in
@@ -71,12 +69,12 @@ check-parts ws params locals dest h =
     let c = none_both (dest_fault dest (params + locals)) _ b.1 in
     (a.0, b.0, c.0, c.1)
 
-dest-low : (dest : Dest) (base : ℕ) → dest_fault dest base ≡ 0 → DestLow dest base
+dest-low : (dest : Option ℕ) (base : ℕ) → dest_fault dest base ≡ Ok tt → DestLow dest base
 unfolding dest_fault
 dest-low None base h = tt
-dest-low (Reg d) base h = leb-false base d (failed (leb base d) 3 h)
+dest-low (Some d) base h = leb-false base d (failed (leb base d) 3 h)
 
-pub record Checked (ws : List ℕ) (params locals : ℕ) (dest : Dest) : Type 0 where
+pub record Checked (ws : List ℕ) (params locals : ℕ) (dest : Option ℕ) : Type 0 where
   pub refs : RefsBelow (params + locals) (tree ws (node_count ws - 1))
   pub layout : params + locals ≤ max_registers
   pub low : DestLow dest (params + locals)
@@ -88,7 +86,7 @@ pub record Checked (ws : List ℕ) (params locals : ℕ) (dest : Dest) : Type 0 
   pub near : 4 * node_count ws ≤ far
   pub named : literals ws (node_count ws) ≤ 2 ^ 32
 
-pub checked : (ws : List ℕ) (params locals : ℕ) (dest : Dest) → check_of ws params locals dest ≡ 0 → Checked ws params locals dest
+pub checked : (ws : List ℕ) (params locals : ℕ) (dest : Option ℕ) → check_of ws params locals dest ≡ Ok tt → Checked ws params locals dest
 checked ws params locals dest h =
     let a = Table.accepted ws params locals dest h in
     let last = node_count ws - 1 in
@@ -107,11 +105,11 @@ checked ws params locals dest h =
     }
 
 -- the fragment of a table
-abbrev pub frag_of : List ℕ → ℕ → ℕ → Dest → Vf
+abbrev pub frag_of : List ℕ → ℕ → ℕ → Option ℕ → Vf
 frag_of ws params locals dest = whole (tree ws (node_count ws - 1)) dest (temp_base_of (params + locals))
 
 pub table-met :
-    (ws : List ℕ) (params locals : ℕ) (dest : Dest) (room cap slot_cap : ℕ) → Checked ws params locals dest →
+    (ws : List ℕ) (params locals : ℕ) (dest : Option ℕ) (room cap slot_cap : ℕ) → Checked ws params locals dest →
     Met (Lacking (needed ws (params + locals)) room cap slot_cap) (generated (tree ws (node_count ws - 1)) dest (params + locals) room cap slot_cap)
     (made cap slot_cap (temp_base_of (params + locals)) (frag_of ws params locals dest))
     (FineI (needs (tree ws (node_count ws - 1))) (temp_base_of (params + locals)) (frag_of ws params locals dest))
@@ -131,13 +129,13 @@ met-is : {W : ℕ → Type 0} {x : Res (ℕ × State)} {a c : ℕ × State} {P :
 met-is {a} {c} (met e p) f = let w : a ≡ c = cc in (w, p)
 met-is (refused n e h) f = let z : ◌≡◌ {A = ℕ} 0 1 = cc in absurd (omega arith)
 
-pub record Known (ws : List ℕ) (params locals : ℕ) (dest : Dest) (cap slot_cap r : ℕ) (s : State) : Type 0 where
-  pub check : check_of ws params locals dest ≡ 0
+pub record Known (ws : List ℕ) (params locals : ℕ) (dest : Option ℕ) (cap slot_cap r : ℕ) (s : State) : Type 0 where
+  pub check : check_of ws params locals dest ≡ Ok tt
   pub is : made cap slot_cap (temp_base_of (params + locals)) (frag_of ws params locals dest) ≡ (r, s)
   pub fine : FineI (needs (tree ws (node_count ws - 1))) (temp_base_of (params + locals)) (frag_of ws params locals dest)
 
 pub known :
-    (ws : List ℕ) (params locals : ℕ) (dest : Dest) (r : ℕ) (s : State) (a : Accepted ws params locals dest r s) →
+    (ws : List ℕ) (params locals : ℕ) (dest : Option ℕ) (r : ℕ) (s : State) (a : Accepted ws params locals dest r s) →
     Known ws params locals dest a.cap a.slot_cap r s
 unfolding compile_of
 known ws params locals dest r s a =

@@ -1,4 +1,5 @@
 -- Registers lent as pairs: a run over them is the run over their values, its payloads stay 64 bits wide, and a value read back is the pair.
+use Rattle.std.specs.Prelude.{Ok, Err}
 use mathlib.Core.Path.{◌≡◌, refl, sym, ◌∙◌}
 use mathlib.Core.Bool.{Bool, true, false, cond}
 use mathlib.Core.List.{List}
@@ -19,7 +20,6 @@ use Rattle.effect.specs.Effect.{size, held, of_read}
 use Rattle.machine.specs.Step.{Next, go, put, stop, after, lent}
 use Rattle.machine.specs.Run.{Out, out, ran, run_from, run_of}
 use Rattle.machine.specs.Datums.{value_at, next_of, End, end, values_from}
-use Rattle.machine.specs.declared.step.Stepped.{Stepped}
 use Rattle.machine.proofs.Lends.{Lends, lends-set, same_step, same-put}
 use Rattle.machine.proofs.Lent.{lends}
 use Rattle.machine.proofs.Written.{Put}
@@ -78,7 +78,7 @@ module _ (ks₀ ps₀ ws sks sps : List ℕ) (ss : List Datum) (m : Lends sks sp
       ((p : ℕ) (ks ps : List ℕ) (rs : List Datum) → Wide ks₀ ps₀ ks ps rs → Same ks₀ ps₀ (run_from ws sks sps n (suc s) p ks ps) (values_from ws ss n (suc s) p rs)) →
       (x : Next) → Put (length rs) x →
       Same ks₀ ps₀
-      (elim (lent ks ps x) [ after r ks' ps' ↦ elim r [ Stepped.Moved p ↦ run_from ws sks sps n (suc s) p ks' ps' | Stepped.Stopped e ↦ out (ran e s at) ks' ps' ] ])
+      (elim (lent ks ps x) [ after r ks' ps' ↦ elim r [ Ok p ↦ run_from ws sks sps n (suc s) p ks' ps' | Err e ↦ out (ran e s at) ks' ps' ] ])
       (elim x [ go p ↦ values_from ws ss n (suc s) p rs | put p d v ↦ values_from ws ss n (suc s) p (set rs d v) | stop e ↦ end (ran e s at) rs ])
   turn n s at {ks} {ps} {rs} l again (go p) h = again p ks ps rs l
   turn n s at {ks} {ps} {rs} l again (put p d v) h = again p (set ks d (kind_of v)) (set ps d (payload_of v)) (set rs d v) (wide-set d v h.0 h.1 l)

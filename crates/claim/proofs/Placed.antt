@@ -1,4 +1,6 @@
 -- Where the value of an accepted table stands, and that the frame has it.
+use Rattle.std.specs.Prelude.{Option, Some, None}
+use Rattle.fold.specs.declared.Tail.{Tail}
 use mathlib.Core.Path.{◌≡◌, refl, subst}
 use mathlib.Core.Bool.{Bool, true, false}
 use mathlib.Core.List.{List, []}
@@ -8,11 +10,6 @@ use lib.IntN.{ℤ}
 use Rattle.table.specs.Table.{node_count, temp_base_of}
 use Rattle.table.specs.Tree.{Tree, leaf, unary, binary, ternary, Leaf, nil, yep, nope, int, float, ref, minus, not', arith, cmp, and, or, tree, RefsBelow}
 use Rattle.table.specs.Tree as Tree
-use Rattle.table.specs.declared.Dest.{Dest}
-use Rattle.table.specs.declared.Dest.TheVariants.{None, Reg}
-use Rattle.emit.specs.declared.state.Dst.TheVariants.{Any}
-use Rattle.fold.specs.declared.Fold.{Fold}
-use Rattle.fold.specs.declared.Fold.TheVariants.{Into, General}
 use Rattle.insns.specs.declared.op.Three.{Three}
 use Rattle.fold.specs.Literal.{fits_imm40}
 use Rattle.fold.specs.Fold.{fold_of}
@@ -27,15 +24,15 @@ record At (n home : ℕ) (F : Vf) : Type 0 where
   home-is : F.reg ≡ home
   below : F.reg < max n F.need
 
-int_at : (b : Bool) (z : ℤ) (n : ℕ) → At n n (int_f b z Any n [])
+int_at : (b : Bool) (z : ℤ) (n : ℕ) → At n n (int_f b z None n [])
 int_at true z n = record { home-is = refl; below = omega linear }
 int_at false z n = record { home-is = refl; below = omega linear }
 
-arith-at : (f : Fold) (o : Three) (a first b : ValueF) (n : ℕ) → At n n (arith_f f o a first b Any n [])
-arith-at (Into tail) o a first b n = record { home-is = refl; below = omega linear }
-arith-at General o a first b n = record { home-is = refl; below = omega linear }
+arith-at : (f : Option Tail) (o : Three) (a first b : ValueF) (n : ℕ) → At n n (arith_f f o a first b None n [])
+arith-at (Some tail) o a first b n = record { home-is = refl; below = omega linear }
+arith-at None o a first b n = record { home-is = refl; below = omega linear }
 
-tree-at : (t : Tree) (base n : ℕ) → RefsBelow base t → base ≤ n → At n (home_of t n) ((frag t).value Any n [])
+tree-at : (t : Tree) (base n : ℕ) → RefsBelow base t → base ≤ n → At n (home_of t n) ((frag t).value None n [])
 unfolding frag RefsBelow Tree.RefBelow
 tree-at (leaf nil) base n h up = record { home-is = refl; below = omega linear }
 tree-at (leaf yep) base n h up = record { home-is = refl; below = omega linear }
@@ -51,13 +48,13 @@ tree-at (binary and a b) base n h up = record { home-is = refl; below = omega li
 tree-at (binary or a b) base n h up = record { home-is = refl; below = omega linear }
 tree-at (ternary c a b) base n h up = record { home-is = refl; below = omega linear }
 
-whole-at : (t : Tree) (dest : Dest) (base n : ℕ) → RefsBelow base t → base ≤ n → DestLow dest n → At n (register_of dest t n) (whole t dest n)
+whole-at : (t : Tree) (dest : Option ℕ) (base n : ℕ) → RefsBelow base t → base ≤ n → DestLow dest n → At n (register_of dest t n) (whole t dest n)
 whole-at t None base n h up low = tree-at t base n h up
-whole-at t (Reg d) base n h up low = record { home-is = refl; below = omega (linear, low) }
+whole-at t (Some d) base n h up low = record { home-is = refl; below = omega (linear, low) }
 
 -- The register is the destination, a lone Ref's own, or the first temporary, and the frame, which is at least the base, has it.
 pub placed :
-    (ws : List ℕ) (params locals : ℕ) (dest : Dest) (r : ℕ) (s : State) → Accepted ws params locals dest r s →
+    (ws : List ℕ) (params locals : ℕ) (dest : Option ℕ) (r : ℕ) (s : State) → Accepted ws params locals dest r s →
     Placed dest (tree ws (node_count ws - 1)) (temp_base_of (params + locals)) r s
 unfolding temp_base_of
 placed ws params locals dest r s a =

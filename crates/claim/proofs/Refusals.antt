@@ -1,4 +1,5 @@
 -- A compile takes no more than `needed`, and is refused for its table or for want of that much alone.
+use Rattle.std.specs.Prelude.{Option, Some, None}
 use mathlib.Core.Path.{◌≡◌, refl, sym, ap, subst, ◌∙◌}
 use mathlib.Core.Bool.{Bool, true, false}
 use mathlib.Core.List.{List}
@@ -8,8 +9,6 @@ use lib.ListN.{length}
 use Rattle.faults.specs.Faults.{fault, ◌or_else◌}
 use Rattle.faults.specs.Numbers.{bad_shape, no_register, no_room}
 use Rattle.table.specs.Table.{node_count, kind_at, payload_at, first_at, depth_at, arity, temp_base_of, kind_fault, children, span_fault, limit_fault, node_fault, nodes_fault, shape_fault, layout_fault, dest_fault, last_fault, check_of}
-use Rattle.table.specs.declared.Dest.{Dest}
-use Rattle.table.specs.declared.Dest.TheVariants.{None, Reg}
 use Rattle.table.specs.Tree.{tree}
 use Rattle.emit.specs.State.{Res, done, fail, State}
 use Rattle.compile.specs.Compile.{generated, accepted, compile_of}
@@ -47,12 +46,12 @@ nodes-most ws base (suc n) =
     (else-most (span_fault (children ws (arity (kind_at ws n)) n 0) (first_at ws n) (depth_at ws n)) _ (span-most ws (arity (kind_at ws n)) n 0 (first_at ws n) (depth_at ws n))
     (else-most _ _ (fault-most _ (omega arith)) (fault-most _ (omega arith)))))
 
-dest-most : (dest : Dest) (base : ℕ) → dest_fault dest base ≤ 5
+dest-most : (dest : Option ℕ) (base : ℕ) → dest_fault dest base ≤ 5
 unfolding dest_fault
 dest-most None base = omega arith
-dest-most (Reg r) base = fault-most _ (omega arith)
+dest-most (Some r) base = fault-most _ (omega arith)
 
-check-most : (ws : List ℕ) (params locals : ℕ) (dest : Dest) → check_of ws params locals dest ≤ 5
+check-most : (ws : List ℕ) (params locals : ℕ) (dest : Option ℕ) → check_of ws params locals dest ≤ 5
 unfolding check_of shape_fault layout_fault last_fault
 check-most ws params locals dest =
     else-most (shape_fault ws) _ (else-most _ _ (fault-most _ (omega arith)) (else-most _ _ (fault-most _ (omega arith)) (fault-most _ (omega arith))))
@@ -74,13 +73,13 @@ only-registers m (slot h) = absurd (omega arith)
 only-registers m (word h) = absurd (omega arith)
 only-registers m (place h) = absurd (omega arith)
 
-met-not : {W : ℕ → Type 0} {x : Res (ℕ × State)} {a : ℕ × State} {P : Type 0} {e : ℕ} → Met W x a P → x ≡ fail e → W e
+met-not : {W : ℕ → Type 0} {x : Res (ℕ × State)} {a : ℕ × State} {P : Type 0} {e : Fault} → Met W x a P → x ≡ fail e → W e
 met-not (met e p) f = let z : ◌≡◌ {A = ℕ} 0 1 = cc in absurd (omega arith)
 met-not {W} {e = e} (refused n g h) f = let z : n ≡ e = cc in subst W z h
 
 -- ---- the claim
 
-module _ (ws : List ℕ) (params locals : ℕ) (dest : Dest) (places cap slot_cap : ℕ) where
+module _ (ws : List ℕ) (params locals : ℕ) (dest : Option ℕ) (places cap slot_cap : ℕ) where
   abbrev check : ℕ
   check = check_of ws params locals dest
 
@@ -103,11 +102,11 @@ module _ (ws : List ℕ) (params locals : ℕ) (dest : Dest) (places cap slot_ca
       subst (λ (x : ℕ × State). Takes need x.1) k.is
       (record { frame = omega arith; slots = omega arith; words = omega (arith, words-length F.code) })
 
-  lacks-by : (e : ℕ) → check ≡ 0 → compile_of ws params locals dest places cap slot_cap ≡ fail e → Lacks need has e
+  lacks-by : (e : Fault) → check ≡ Ok tt → compile_of ws params locals dest places cap slot_cap ≡ fail e → Lacks need has e
   unfolding compile_of
   lacks-by e h f = met-not (table-met ws params locals dest places cap slot_cap (checked ws params locals dest h)) (ap (λ (k : ℕ). accepted k gives) (sym h) ∙ f)
 
-  accepts-by : check ≡ 0 → Enough need has → need.registers ≤ has.registers → (x : ℕ × State) × (compile_of ws params locals dest places cap slot_cap ≡ done x)
+  accepts-by : check ≡ Ok tt → Enough need has → need.registers ≤ has.registers → (x : ℕ × State) × (compile_of ws params locals dest places cap slot_cap ≡ done x)
   unfolding compile_of
   accepts-by h m few = go (table-met ws params locals dest places cap slot_cap (checked ws params locals dest h))
     where
@@ -117,7 +116,7 @@ module _ (ws : List ℕ) (params locals : ℕ) (dest : Dest) (places cap slot_ca
 
   -- refused by the check, or for what is lacking
   either :
-      (P : ℕ → Type 0) (e : ℕ) → ((n : ℕ) → check ≡ suc n → P (suc n)) → (Lacks need has e → P e) →
+      (P : ℕ → Type 0) (e : Fault) → ((n : ℕ) → check ≡ suc n → P (suc n)) → (Lacks need has e → P e) →
       compile_of ws params locals dest places cap slot_cap ≡ fail e → P e
   unfolding compile_of
   either P e by lacking f = go check refl f

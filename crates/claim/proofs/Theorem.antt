@@ -1,4 +1,5 @@
 -- Demand 3: the words of an accepted table, run, give what the tree gives.
+use Rattle.std.specs.Prelude.{Option, Some, None}
 use mathlib.Core.Path.{◌≡◌, refl, sym, ap, ap₂, ◌∙◌, subst}
 use mathlib.Core.Bool.{true}
 use mathlib.Core.List.{List, [], ◌∷◌, append-nil, map}
@@ -11,17 +12,14 @@ use Rattle.faults.specs.Faults as Faults
 use Rattle.faults.proofs.Faults.{none_both}
 use Rattle.table.specs.Table.{node_count, temp_base_of, shape_fault, layout_fault, dest_fault, nodes_fault, last_fault, check_of}
 use Rattle.table.specs.Tree.{Tree, tree, RefsBelow}
-use Rattle.table.specs.declared.Dest.{Dest}
-use Rattle.table.specs.declared.Dest.TheVariants.{None, Reg}
 use Rattle.value.specs.Value.{Datum, nil, kind_of, payload_of, of_pair, is_well, datum_of, datums, all_well}
-use Rattle.value.specs.Answer.{Result, is, fault}
+use Rattle.value.specs.Answer.{Answer, is, fault}
 use Rattle.eval.specs.Eval.{eval_of}
 use Rattle.eval.specs.Evaluate.{locals_fault, unless, evaluate_of}
 use Rattle.effect.specs.Effect as M
 use Rattle.machine.specs.Run.{Out, run_of}
 use Rattle.machine.specs.Datums.{value_at}
 use Rattle.machine.specs.declared.run.Ran.{Ran}
-use Rattle.emit.specs.declared.state.Dst.TheVariants.{Any, To}
 use Rattle.emit.specs.State.{State}
 use Rattle.compile.specs.Compile.{dst_of}
 use Rattle.compile.specs.Buffers.{padded}
@@ -41,22 +39,22 @@ use Rattle.claim.proofs.Known.{DestLow, low-more, whole, made, check-parts, Chec
 -- ---- the fragment of a whole expression, run alone
 
 whole-fixed :
-    (t : Tree) (dest : Dest) (base n : ℕ) (ls : List Datum) → RefsBelow base t → base ≤ n → DestLow dest n → AllFit (whole t dest n).code →
+    (t : Tree) (dest : Option ℕ) (base n : ℕ) (ls : List Datum) → RefsBelow base t → base ≤ n → DestLow dest n → AllFit (whole t dest n).code →
     Fixed (dst_of dest) base n (whole t dest n) ls (eval_of ls t)
 whole-fixed t None base n ls h up low fits =
     let F = whole t None n in
-    fixed Any base n F ls (eval_of ls t)
-    (((sound (words_of F.code) F.consts ls base t h).values Any n [] up tt
+    fixed None base n F ls (eval_of ls t)
+    (((sound (words_of F.code) F.consts ls base t h).values None n [] up tt
     ).runs 0 (length F.code) (at_self F.code fits) (record { behind = []; is = sym (append-nil F.consts) }))
-whole-fixed t (Reg d) base n ls h up low fits =
-    let F = whole t (Reg d) n in
-    fixed (To d) base n F ls (eval_of ls t)
-    ((into-sound (words_of F.code) F.consts ls base d n [] ((frag t).value (To d) n []) (eval_of ls t) low
-    ((sound (words_of F.code) F.consts ls base t h).values (To d) n [] up low)
+whole-fixed t (Some d) base n ls h up low fits =
+    let F = whole t (Some d) n in
+    fixed (Some d) base n F ls (eval_of ls t)
+    ((into-sound (words_of F.code) F.consts ls base d n [] ((frag t).value (Some d) n []) (eval_of ls t) low
+    ((sound (words_of F.code) F.consts ls base t h).values (Some d) n [] up low)
     ).runs 0 (length F.code) (at_self F.code fits) (record { behind = []; is = sym (append-nil F.consts) }))
 
 -- the check without a destination, too
-check-none : (ws : List ℕ) (params locals : ℕ) (dest : Dest) → check_of ws params locals dest ≡ 0 → check_of ws params locals None ≡ 0
+check-none : (ws : List ℕ) (params locals : ℕ) (dest : Option ℕ) → check_of ws params locals dest ≡ Ok tt → check_of ws params locals None ≡ Ok tt
 unfolding check_of dest_fault Faults.◌or_else◌
 check-none ws params locals dest h = let p = check-parts ws params locals dest h in rw (p.0, p.1, p.3) refl
 
@@ -82,7 +80,7 @@ abbrev locals_of : ℕ → List ℕ → List ℕ → List Datum
 locals_of base ks ps = datums (take base ks) (take base ps)
 
 evaluates :
-    (ws : List ℕ) (params locals : ℕ) (dest : Dest) (ks ps : List ℕ) → check_of ws params locals dest ≡ 0 → all_well ks ps ≡ true → params + locals ≤ M.size ks ps →
+    (ws : List ℕ) (params locals : ℕ) (dest : Option ℕ) (ks ps : List ℕ) → check_of ws params locals dest ≡ Ok tt → all_well ks ps ≡ true → params + locals ≤ M.size ks ps →
     eval_of (locals_of (params + locals) ks ps) (tree ws (node_count ws - 1)) ≡ evaluate_of ws params locals ks ps
 unfolding evaluate_of locals_fault unless Faults.◌or_else◌ Faults.fault
 evaluates ws params locals dest ks ps h w enough =
@@ -90,7 +88,7 @@ evaluates ws params locals dest ks ps h w enough =
 
 -- ---- a fragment, and what a run of its words leaves
 
-module _ (dest : Dest) (base n : ℕ) (F : Vf) (ks ps sks sps : List ℕ) (h : Values ks ps) (k : Slots F.consts sks sps) (roomy : max n F.need ≤ M.size ks ps) where
+module _ (dest : Option ℕ) (base n : ℕ) (F : Vf) (ks ps sks sps : List ℕ) (h : Values ks ps) (k : Slots F.consts sks sps) (roomy : max n F.need ≤ M.size ks ps) where
   abbrev rs : List Datum
   rs = datums ks ps
 
@@ -119,15 +117,15 @@ module _ (dest : Dest) (base n : ℕ) (F : Vf) (ks ps sks sps : List ℕ) (h : V
       let new = pair_is w i v (e ∙ held) in
       record { kind = new.kind ∙ sym old.kind; payload = new.payload ∙ sym old.payload }
 
-  not_dst : (dest : Dest) (i : ℕ) → NotDest dest i → NotDst (dst_of dest) i
+  not_dst : (dest : Option ℕ) (i : ℕ) → NotDest dest i → NotDst (dst_of dest) i
   not_dst None i d = tt
-  not_dst (Reg r) i d = d
+  not_dst (Some r) i d = d
 
-  high-dst : (dest : Dest) (i : ℕ) → DestLow dest n → n ≤ i → NotDst (dst_of dest) i
+  high-dst : (dest : Option ℕ) (i : ℕ) → DestLow dest n → n ≤ i → NotDst (dst_of dest) i
   high-dst None i low up = tt
-  high-dst (Reg r) i low up = omega arith
+  high-dst (Some r) i low up = omega arith
 
-  kept : (dest : Dest) (o : Out) (rs' : List Datum) → DestLow dest n → Wide ks ps (kinds_left o) (payloads_left o) rs' → Keep (dst_of dest) n F.need rs rs' → Kept dest n (max n F.need) ks ps o
+  kept : (dest : Option ℕ) (o : Out) (rs' : List Datum) → DestLow dest n → Wide ks ps (kinds_left o) (payloads_left o) rs' → Keep (dst_of dest) n F.need rs rs' → Kept dest n (max n F.need) ks ps o
   kept dest o rs' low w keep =
       record {
         kinds = w.kinds;
@@ -137,7 +135,7 @@ module _ (dest : Dest) (base n : ℕ) (F : Vf) (ks ps sks sps : List ℕ) (h : V
       }
 
   agrees :
-      (cap slot_cap : ℕ) (res : Result) (o : Out) (report : Ran) (rs' : List Datum) → DestLow dest n → InDest dest F.reg → Told res (length F.code) report →
+      (cap slot_cap : ℕ) (res : Answer) (o : Out) (report : Ran) (rs' : List Datum) → DestLow dest n → InDest dest F.reg → Told res (length F.code) report →
       Left (dst_of dest) n F rs rs' res → reported o ≡ report → Wide ks ps (kinds_left o) (payloads_left o) rs' →
       Agrees dest n F.reg (made cap slot_cap n F).1 ks ps res o
   agrees cap slot_cap (is v) o report rs' low chosen told left e w =
@@ -161,21 +159,21 @@ module _ (dest : Dest) (base n : ℕ) (F : Vf) (ks ps sks sps : List ℕ) (h : V
 -- ---- demand 3
 
 -- the report of a run, and that it is as claimed
-record Ran-as (dest : Dest) (n : ℕ) (c : ℕ × State) (ks ps : List ℕ) (res : Result) (report : Ran) (o : Out) : Type 0 where
+record Ran-as (dest : Option ℕ) (n : ℕ) (c : ℕ × State) (ks ps : List ℕ) (res : Answer) (report : Ran) (o : Out) : Type 0 where
   reports : reported o ≡ report
   claim : Agrees dest n c.0 c.1 ks ps res o
 
-in-dest : (t : Tree) (dest : Dest) (n : ℕ) → InDest dest (whole t dest n).reg
+in-dest : (t : Tree) (dest : Option ℕ) (n : ℕ) → InDest dest (whole t dest n).reg
 in-dest t None n = tt
-in-dest t (Reg d) n = refl
+in-dest t (Some d) n = refl
 
 -- a claim about a value
 ended :
-    (dest : Dest) (n r : ℕ) (s : State) (ks ps : List ℕ) (res : Result) (v : Datum) (o : Out) → res ≡ is v → Agrees dest n r s ks ps res o → HasValue o r v
-ended dest n r s ks ps res v o e a = (subst (λ (x : Result). Agrees dest n r s ks ps x o) e a).outcome.value
+    (dest : Option ℕ) (n r : ℕ) (s : State) (ks ps : List ℕ) (res : Answer) (v : Datum) (o : Out) → res ≡ is v → Agrees dest n r s ks ps res o → HasValue o r v
+ended dest n r s ks ps res v o e a = (subst (λ (x : Answer). Agrees dest n r s ks ps x o) e a).outcome.value
 
 -- of a checked table whose fragment's words fit
-module _ (ws : List ℕ) (params locals : ℕ) (dest : Dest) (cap slot_cap : ℕ) (check : check_of ws params locals dest ≡ 0)
+module _ (ws : List ℕ) (params locals : ℕ) (dest : Option ℕ) (cap slot_cap : ℕ) (check : check_of ws params locals dest ≡ Ok tt)
     (fits : AllFit (frag_of ws params locals dest).code) where
   abbrev t : Tree
   t = tree ws (node_count ws - 1)
@@ -225,7 +223,7 @@ module _ (ws : List ℕ) (params locals : ℕ) (dest : Dest) (cap slot_cap : ℕ
       record {
         agrees =
             λ ks ps sks sps budget l.
-            subst (λ (res : Result). Agrees dest n c.0 c.1 ks ps res (run_of (words_of F.code) sks sps budget 0 ks ps))
+            subst (λ (res : Answer). Agrees dest n c.0 c.1 ks ps res (run_of (words_of F.code) sks sps budget 0 ks ps))
             (evaluates ws params locals dest ks ps check l.registers.well (omega (arith, l.room)))
             ((runs (locals_of base ks ps)).1 ks ps sks sps budget l refl).claim;
         alike =
@@ -244,7 +242,7 @@ module _ (ws : List ℕ) (params locals : ℕ) (dest : Dest) (cap slot_cap : ℕ
             };
       }
 
-pub demand-3 : (ws : List ℕ) (params locals : ℕ) (dest : Dest) (r : ℕ) (s : State) → Accepted ws params locals dest r s → Demand3 ws params locals dest r s
+pub demand-3 : (ws : List ℕ) (params locals : ℕ) (dest : Option ℕ) (r : ℕ) (s : State) → Accepted ws params locals dest r s → Demand3 ws params locals dest r s
 demand-3 ws params locals dest r s a =
     let k = known ws params locals dest r s a in
     subst (λ (c : ℕ × State). Demand3 ws params locals dest c.0 c.1) k.is
@@ -252,13 +250,13 @@ demand-3 ws params locals dest r s a =
 
 -- ---- the slots that compiling leaves
 
-whole-held : (t : Tree) (dest : Dest) (n : ℕ) → TreeHeld t → AllHeld (whole t dest n).consts
-whole-held t None n h = frag-held t h Any n []
-whole-held t (Reg d) n h = frag-held t h (To d) n []
+whole-held : (t : Tree) (dest : Option ℕ) (n : ℕ) → TreeHeld t → AllHeld (whole t dest n).consts
+whole-held t None n h = frag-held t h None n []
+whole-held t (Some d) n h = frag-held t h (Some d) n []
 
 -- The lent slots, as compiling leaves them (its constants, and zeros behind), are slots of the claim.
 pub slots-left :
-    (ws : List ℕ) (params locals : ℕ) (dest : Dest) (r : ℕ) (s : State) → Accepted ws params locals dest r s → ((i : ℕ) → get_or ws i 0 < 2 ^ 64) → (k p : ℕ) →
+    (ws : List ℕ) (params locals : ℕ) (dest : Option ℕ) (r : ℕ) (s : State) → Accepted ws params locals dest r s → ((i : ℕ) → get_or ws i 0 < 2 ^ 64) → (k p : ℕ) →
     Slots s.slots (padded (map kind_of s.slots) k) (padded (map payload_of s.slots) p)
 slots-left ws params locals dest r s a b k p =
     left-slots s.slots k p
@@ -268,7 +266,7 @@ slots-left ws params locals dest r s a b k p =
 -- ---- an evaluation and a run, as calls give them
 
 pub promised :
-    (nodes : List ℕ) (params locals : ℕ) (words sks sps ks ps : List ℕ) (budget : ℕ) {res : Result} {o : Out} → res ≡ evaluate_of nodes params locals ks ps →
+    (nodes : List ℕ) (params locals : ℕ) (words sks sps ks ps : List ℕ) (budget : ℕ) {res : Answer} {o : Out} → res ≡ evaluate_of nodes params locals ks ps →
     o ≡ run_of words sks sps budget 0 ks ps → Promised nodes params locals words sks sps ks ps budget res o
 promised nodes params locals words sks sps ks ps budget e f =
     record {

@@ -7,13 +7,11 @@
 --     what lay in the temporaries changes no answer                                                        `Alike`
 --
 -- `Demand3` says it of an accepted table, whatever is lent to the run within `Supplied`.
-use Rattle.std.specs.Prelude.{◌≢◌, ◌≡◌, true, List, ◌++◌, ℕ, ◌+◌, ◌≤◌, ◌<◌, ◌^◌, length, get_or, take}
+use Rattle.std.specs.Prelude.{◌≢◌, ◌≡◌, true, List, ◌++◌, ℕ, ◌+◌, ◌≤◌, ◌<◌, ◌^◌, length, get_or, take, Option, Some, None}
 use Rattle.value.specs.Value.{Datum, kind_of, payload_of, all_well, datums}
-use Rattle.value.specs.Answer.{Result, is, fault}
+use Rattle.value.specs.Answer.{Answer, is, fault}
 use Rattle.table.specs.Table.{temp_base_of}
 use Rattle.table.specs.Tree.{Tree, leaf, unary, binary, ternary, Leaf, nil, yep, nope, int, float, ref}
-use Rattle.table.specs.declared.Dest.{Dest}
-use Rattle.table.specs.declared.Dest.TheVariants.{None, Reg}
 use Rattle.effect.specs.Effect.{size}
 use Rattle.eval.specs.Evaluate.{evaluate_of}
 use Rattle.machine.specs.Run.{Out, out, run_of}
@@ -40,23 +38,23 @@ pub record HasValue (o : Out) (i : ℕ) (v : Datum) : Type 0 where
 -- ---- the run ends with the tree's value in the returned register, or stops with the tree's own fault
 
 -- the returned register is the destination, if there is one
-abbrev pub InDest : Dest → ℕ → Type 0
+abbrev pub InDest : Option ℕ → ℕ → Type 0
 InDest None r = Unit {0}
-InDest (Reg d) r = r ≡ d
+InDest (Some d) r = r ≡ d
 
-pub record Ended (dest : Dest) (r words : ℕ) (v : Datum) (o : Out) : Type 0 where
+pub record Ended (dest : Option ℕ) (r words : ℕ) (v : Datum) (o : Out) : Type 0 where
   pub number : (reported o).number ≡ 0
   pub position : (reported o).position ≡ words
   pub value : HasValue o r v
   pub chosen : InDest dest r
 
-abbrev pub Outcome : Dest → ℕ → ℕ → Result → Out → Type 0
+abbrev pub Outcome : Option ℕ → ℕ → ℕ → Answer → Out → Type 0
 Outcome dest r words (is v) o = Ended dest r words v o
 Outcome dest r words (fault e) o = (reported o).number ≡ e
 
 -- ---- steps never exceed words; a step that stops is not counted, so with a fault they are fewer
 
-abbrev pub Few : Result → ℕ → ℕ → Type 0
+abbrev pub Few : Answer → ℕ → ℕ → Type 0
 Few (is v) steps words = steps ≤ words
 Few (fault e) steps words = steps < words
 
@@ -67,16 +65,16 @@ pub record Unchanged (ks ps : List ℕ) (o : Out) (i : ℕ) : Type 0 where
   pub payload : get_or (payloads_left o) i 0 ≡ get_or ps i 0
 
 -- with a fault the destination too is as it was
-abbrev pub written : Dest → Result → Dest
+abbrev pub written : Option ℕ → Answer → Option ℕ
 written dest (is v) = dest
 written dest (fault e) = None
 
-abbrev pub NotDest : Dest → ℕ → Type 0
+abbrev pub NotDest : Option ℕ → ℕ → Type 0
 NotDest None i = Unit {0}
-NotDest (Reg d) i = i ≢ d
+NotDest (Some d) i = i ≢ d
 
 -- the temporaries lie from `base` up to the frame
-pub record Kept (dest : Dest) (base frame : ℕ) (ks ps : List ℕ) (o : Out) : Type 0 where
+pub record Kept (dest : Option ℕ) (base frame : ℕ) (ks ps : List ℕ) (o : Out) : Type 0 where
   pub kinds : length (kinds_left o) ≡ length ks
   pub payloads : length (payloads_left o) ≡ length ps
   pub low : (i : ℕ) → i < base → NotDest dest i → Unchanged ks ps o i
@@ -84,21 +82,21 @@ pub record Kept (dest : Dest) (base frame : ℕ) (ks ps : List ℕ) (o : Out) : 
 
 -- ---- these three, of a run on the registers ks, ps of a tree that gives res
 
-pub record Agrees (dest : Dest) (base r : ℕ) (s : State) (ks ps : List ℕ) (res : Result) (o : Out) : Type 0 where
+pub record Agrees (dest : Option ℕ) (base r : ℕ) (s : State) (ks ps : List ℕ) (res : Answer) (o : Out) : Type 0 where
   pub outcome : Outcome dest r (length s.words) res o
   pub steps : Few res (reported o).steps (length s.words)
   pub kept : Kept (written dest res) base s.frame ks ps o
 
 -- ---- what lay in the temporaries changes no answer: two runs with the same report, and the same value in the returned register
 
-pub record Alike (res : Result) (r : ℕ) (o o' : Out) : Type 0 where
+pub record Alike (res : Answer) (r : ℕ) (o o' : Out) : Type 0 where
   pub report : reported o ≡ reported o'
   pub value : (v : Datum) → res ≡ is v → HasValue o r v × HasValue o' r v
 
 -- ---- what goes in
 
 -- the table is accepted: the register, and the state with the words, the constants and the frame
-pub record Accepted (ws : List ℕ) (params locals : ℕ) (dest : Dest) (r : ℕ) (s : State) : Type 0 where
+pub record Accepted (ws : List ℕ) (params locals : ℕ) (dest : Option ℕ) (r : ℕ) (s : State) : Type 0 where
   -- lent: places for jumps, words and constants
   pub places : ℕ
   pub cap : ℕ
@@ -130,7 +128,7 @@ pub record Supplied (s : State) (ks ps sks sps : List ℕ) (budget : ℕ) : Type
 -- ---- demand 3
 
 -- of an accepted table; the two runs of `alike` have the same locals, and may differ in all else that they are lent
-pub record Demand3 (ws : List ℕ) (params locals : ℕ) (dest : Dest) (r : ℕ) (s : State) : Type 0 where
+pub record Demand3 (ws : List ℕ) (params locals : ℕ) (dest : Option ℕ) (r : ℕ) (s : State) : Type 0 where
   pub agrees :
       (ks ps sks sps : List ℕ) (budget : ℕ) → Supplied s ks ps sks sps budget →
       Agrees dest (temp_base_of (params + locals)) r s ks ps (evaluate_of ws params locals ks ps) (run_of s.words sks sps budget 0 ks ps)
@@ -156,12 +154,12 @@ home_of (unary o a) base = base
 home_of (binary o a b) base = base
 home_of (ternary c a b) base = base
 
-abbrev pub register_of : Dest → Tree → ℕ → ℕ
+abbrev pub register_of : Option ℕ → Tree → ℕ → ℕ
 register_of None t base = home_of t base
-register_of (Reg d) t base = d
+register_of (Some d) t base = d
 
 -- the frame is at least the base, and has the register
-pub record Placed (dest : Dest) (t : Tree) (base r : ℕ) (s : State) : Type 0 where
+pub record Placed (dest : Option ℕ) (t : Tree) (base r : ℕ) (s : State) : Type 0 where
   pub frame : base ≤ s.frame
   pub inside : r < s.frame
   pub place : r ≡ register_of dest t base

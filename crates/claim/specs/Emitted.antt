@@ -1,9 +1,7 @@
 -- 01: "It runs nop and every opcode that the generator emits." Which opcodes these are, and that the machine runs no other.
-use Rattle.std.specs.Prelude.{◌≡◌, Bool, true, false, not, ◌&&◌, ◌||◌, List, ℕ, ◌%◌, ◌<◌, leb, eqb, length, get_or}
-use Rattle.value.specs.Answer.{Result}
-use Rattle.table.specs.declared.Dest.{Dest}
+use Rattle.std.specs.Prelude.{◌≡◌, Bool, true, false, not, ◌&&◌, ◌||◌, List, ℕ, ◌%◌, ◌<◌, leb, eqb, length, get_or, Option, Some}
+use Rattle.value.specs.Answer.{Answer}
 use Rattle.insns.specs.declared.op.Op.{Op}
-use Rattle.insns.specs.declared.Made.{Made}
 use Rattle.insns.specs.Opcodes.{op_of}
 use Rattle.insns.specs.Insns.{form_of, made_of}
 use Rattle.effect.specs.Effect.{Effect, write, branch, next, halt, effect_of}
@@ -37,14 +35,14 @@ halts (halt n) = true
 -- word k of an accepted table is that of an instruction whose opcode is one of these
 pub record IsEmitted (s : State) (k : ℕ) : Type 0 where
   pub insn : Op
-  pub word : made_of insn ≡ Made.Fits (record { bits = get_or s.words k 0 })
+  pub word : made_of insn ≡ Some (record { bits = get_or s.words k 0 })
   pub among : is_emitted (opcode_of insn) ≡ true
 
 -- some accepted table has a word with this opcode, its low byte
 pub record EmittedBySome (op : ℕ) : Type 0 where
   pub table : List ℕ
   pub params : ℕ
-  pub dest : Dest
+  pub dest : Option ℕ
   pub register : ℕ
   pub state : State
   pub accepted : Accepted table params 0 dest register state
@@ -53,8 +51,8 @@ pub record EmittedBySome (op : ℕ) : Type 0 where
   pub opcode : get_or state.words at 0 % 256 ≡ op
 
 pub record RunsWhatIsEmitted : Type 0 where
-  pub runs : (reg slot : ℕ → Result) (i : Op) → halts (effect_of reg slot i) ≡ not (is_nop (opcode_of i) || is_emitted (opcode_of i))
+  pub runs : (reg slot : ℕ → Answer) (i : Op) → halts (effect_of reg slot i) ≡ not (is_nop (opcode_of i) || is_emitted (opcode_of i))
   pub only :
-      (ws : List ℕ) (params locals : ℕ) (dest : Dest) (r : ℕ) (s : State) → Accepted ws params locals dest r s →
+      (ws : List ℕ) (params locals : ℕ) (dest : Option ℕ) (r : ℕ) (s : State) → Accepted ws params locals dest r s →
       (k : ℕ) → k < length s.words → IsEmitted s k
   pub each : (op : ℕ) → is_emitted op ≡ true → EmittedBySome op

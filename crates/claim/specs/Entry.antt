@@ -1,10 +1,10 @@
 -- Plumbing: what the contracts of `agree`'s two routines cite, which carry demand 3 to what is shipped.
-use Rattle.std.specs.Prelude.{◌≡◌, true, List, ℕ, ◌+◌, ◌≤◌, min, length}
+use Rattle.faults.specs.declared.Fault.{Fault}
+use Rattle.std.specs.Prelude.{◌≡◌, true, List, ℕ, ◌+◌, ◌≤◌, min, length, Option, Result}
 use Rattle.faults.specs.Limits.{max_nodes}
 use Rattle.value.specs.Value.{all_well}
-use Rattle.value.specs.Answer.{Result}
+use Rattle.value.specs.Answer.{Answer}
 use Rattle.table.specs.Table.{temp_base_of, check_of}
-use Rattle.table.specs.declared.Dest.{Dest}
 use Rattle.effect.specs.Effect.{size}
 use Rattle.eval.specs.Evaluate.{evaluate_of}
 use Rattle.machine.specs.Run.{Out, out, ran, run_of}
@@ -18,11 +18,11 @@ use Rattle.claim.specs.Refusals.{Amounts, needed, lent, Lacks}
 -- ---- an evaluation and a run
 
 -- Of any table, words, slots and registers: where the words are those of the table and the registers and slots are as `Supplied` says, they agree.
-pub record Promised (nodes : List ℕ) (params locals : ℕ) (words sks sps ks ps : List ℕ) (budget : ℕ) (res : Result) (o : Out) : Type 0 where
+pub record Promised (nodes : List ℕ) (params locals : ℕ) (words sks sps ks ps : List ℕ) (budget : ℕ) (res : Answer) (o : Out) : Type 0 where
   pub tree : res ≡ evaluate_of nodes params locals ks ps
   pub run : o ≡ run_of words sks sps budget 0 ks ps
   pub agree :
-      (dest : Dest) (r : ℕ) (s : State) → Accepted nodes params locals dest r s → words ≡ s.words → Supplied s ks ps sks sps budget →
+      (dest : Option ℕ) (r : ℕ) (s : State) → Accepted nodes params locals dest r s → words ≡ s.words → Supplied s ks ps sks sps budget →
       Agrees dest (temp_base_of (params + locals)) r s ks ps res o
 
 -- ---- one call that compiles a table, evaluates it and runs its words
@@ -39,14 +39,14 @@ pub record Premises (s : State) (ks ps : List ℕ) (budget : ℕ) : Type 0 where
   pub steps : length s.words ≤ budget
 
 -- An accepted table: the run agrees with the tree. A refused one whose check passed: less is lent than it needs.
-abbrev pub Compared : Dest → ℕ → Amounts → Amounts → ℕ → Res (ℕ × State) → List ℕ → List ℕ → ℕ → Result → Out → Type 0
+abbrev pub Compared : Option ℕ → ℕ → Amounts → Amounts → ℕ → Res (ℕ × State) → List ℕ → List ℕ → ℕ → Answer → Out → Type 0
 Compared dest base need has check (done x) ks ps budget res o = Premises x.1 ks ps budget → Agrees dest base x.0 x.1 ks ps res o
-Compared dest base need has check (fail n) ks ps budget res o = check ≡ 0 → Lacks need has n
+Compared dest base need has check (fail n) ks ps budget res o = check ≡ Ok tt → Lacks need has n
 
 -- Lent: nodes, room for c words, k kinds and p payloads of constants, registers ks, ps, and a budget.
 -- Given back: compile's answer q, with the words and constants that it left; the tree's answer res; the run's report and registers, o.
-pub record Whole (nodes : List ℕ) (params locals : ℕ) (dest : Dest) (c k p : ℕ) (ks ps : List ℕ) (budget : ℕ)
-    (q : Compiled) (code sks sps : List ℕ) (res : Result) (o : Out) : Type 0 where
+pub record Whole (nodes : List ℕ) (params locals : ℕ) (dest : Option ℕ) (c k p : ℕ) (ks ps : List ℕ) (budget : ℕ)
+    (q : Result Compiled Fault) (code sks sps : List ℕ) (res : Answer) (o : Out) : Type 0 where
   pub m : Res (ℕ × State)
   pub is : m ≡ compile_of nodes params locals dest max_nodes c (min k p)
   pub compile : Compiles q m code sks sps c k p

@@ -1,9 +1,8 @@
 -- How much a compile takes at most, and that it is refused for its table or for want of that much alone: 01's numbers 1 to 7, and no other.
-use Rattle.std.specs.Prelude.{◌≡◌, cond, List, ℕ, zero, suc, ◌+◌, ◌-◌, ◌*◌, ◌/◌, ◌≤◌, ◌<◌, eqb, length}
+use Rattle.std.specs.Prelude.{◌≡◌, cond, List, ℕ, zero, suc, ◌+◌, ◌-◌, ◌*◌, ◌/◌, ◌≤◌, ◌<◌, eqb, length, Option}
 use Rattle.faults.specs.Limits.{max_registers}
 use Rattle.faults.specs.Numbers.{bad_shape, no_register, no_slot, no_room}
 use Rattle.table.specs.Table.{node_count, kind_at, depth_at, temp_base_of, check_of}
-use Rattle.table.specs.declared.Dest.{Dest}
 use Rattle.emit.specs.State.{Res, done, fail, State}
 use Rattle.compile.specs.Compile.{compile_of}
 
@@ -68,13 +67,13 @@ pub data TableOrRegisters (check : ℕ) : ℕ → Type 0 where
 -- a compile that gave m, of a table with this number of its check
 pub record Refusals (need has : Amounts) (check : ℕ) (m : Res (ℕ × State)) : Type 0 where
   pub takes : (r : ℕ) (s : State) → m ≡ done (r, s) → Takes need s
-  pub lacks : (e : ℕ) → check ≡ 0 → m ≡ fail e → Lacks need has e
-  pub enough : (e : ℕ) → Enough need has → m ≡ fail e → TableOrRegisters check e
-  pub accepts : check ≡ 0 → Enough need has → need.registers ≤ has.registers → (x : ℕ × State) × (m ≡ done x)
+  pub lacks : (e : Fault) → check ≡ Ok tt → m ≡ fail e → Lacks need has e
+  pub enough : (e : Fault) → Enough need has → m ≡ fail e → TableOrRegisters check e
+  pub accepts : check ≡ Ok tt → Enough need has → need.registers ≤ has.registers → (x : ℕ × State) × (m ≡ done x)
   pub checks : check ≤ no_register
-  pub numbers : (e : ℕ) → m ≡ fail e → (bad_shape ≤ e) × (e ≤ no_room)
+  pub numbers : (e : Fault) → m ≡ fail e → (bad_shape ≤ e) × (e ≤ no_room)
 
-abbrev pub RefusalsOf : List ℕ → ℕ → ℕ → Dest → ℕ → ℕ → ℕ → Type 0
+abbrev pub RefusalsOf : List ℕ → ℕ → ℕ → Option ℕ → ℕ → ℕ → ℕ → Type 0
 RefusalsOf ws params locals dest places cap slot_cap =
     Refusals (needed ws (params + locals)) (lent places cap slot_cap) (check_of ws params locals dest)
     (compile_of ws params locals dest places cap slot_cap)

@@ -1,10 +1,9 @@
 -- The generator's register counter is that of `regs`, the port of the Rust's `Regs`: its next free register and its frame.
-use Rattle.std.specs.Prelude.{◌≡◌, ℕ}
+use Rattle.faults.specs.declared.Fault.{Fault}
+use Rattle.std.specs.Prelude.{◌≡◌, ℕ, Result, Ok, Err}
 use Rattle.table.specs.Table.{temp_base_of}
 use Rattle.regs.specs.Counter.{fresh, allocated, freed}
 use Rattle.regs.specs.declared.Regs.{Regs}
-use Rattle.regs.specs.declared.Got.{Got}
-use Rattle.regs.specs.declared.Got.TheVariants.{Reg, Refused}
 use Rattle.emit.specs.State.{Res, done, fail, State, alloc_d, release}
 use Rattle.compile.specs.Compile.{start}
 
@@ -16,9 +15,9 @@ abbrev pub with_counter : Regs → State → State
 with_counter c s = record { words = s.words; cap = s.cap; slots = s.slots; slot_cap = s.slot_cap; next = c.next; frame = c.max }
 
 -- a register and the counter after it; or the refusal
-abbrev pub taken : Got → Regs → State → Res (ℕ × State)
-taken (Reg r) c s = done (r, with_counter c s)
-taken (Refused n) c s = fail n
+abbrev pub taken : Result ℕ Fault → Regs → State → Res (ℕ × State)
+taken (Ok r) c s = done (r, with_counter c s)
+taken (Err n) c s = fail n
 
 pub record SameCounter (vars : ℕ) (s : State) : Type 0 where
   pub starts : (cap slot_cap : ℕ) → counter_of vars (start cap slot_cap (temp_base_of vars)) ≡ fresh vars

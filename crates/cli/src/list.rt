@@ -1,5 +1,5 @@
 // The listing: each word with its position, its name and its operands; a jump with the position that it goes to.
-use decode::Decoded;
+use insns::op::Op;
 use operands::of_op::{PlainOp, plain_op};
 use print::{Numbers, say, tell, tell_line, two};
 use std::io;
@@ -98,10 +98,10 @@ fn say_parts(rt: &impl Print, p: PlainOp, at: u64) -> io::Result<()> {
     )
 }
 
-fn say_decoded(rt: &impl Print, d: Decoded, at: u64) -> io::Result<()> {
+fn say_decoded(rt: &impl Print, d: Option<Op>, at: u64) -> io::Result<()> {
     match d {
-        Decoded::Is(i) => say_parts(rt, plain_op(i), at),
-        Decoded::Bad => say(rt, b"a word that does not decode"),
+        Some(i) => say_parts(rt, plain_op(i), at),
+        None => say(rt, b"a word that does not decode"),
     }
 }
 

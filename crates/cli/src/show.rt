@@ -1,6 +1,8 @@
 // An expression that could be read: its words, and the values that the tree and the words give.
 ghost use Rattle.std.specs.Prelude.{◌≤◌};
 
+use faults::Fault;
+use value::Value;
 use crate::list::list_words;
 use crate::trouble::say_at;
 use crate::why::say_where;
@@ -10,8 +12,6 @@ use print::{none, one, say, say_value, tell, tell_line, three, two};
 use reader::gather::put_spans;
 use reader::head::{Head, NODES, base_of, locals_of};
 use std::io;
-use table::Dest;
-use value::answer::Answer;
 
 // What became of an expression.
 #[derive(Clone, Copy)]
@@ -38,11 +38,11 @@ fn within(n: usize, room: usize) -> usize
     room
 }
 
-fn dest_of(d: u64) -> Dest {
+fn dest_of(d: u64) -> Option<u64> {
     if d == 0 {
-        return Dest::None;
+        return None;
     }
-    Dest::Reg(d - 1)
+    Some(d - 1)
 }
 
 // The meaning of a number that a caller can get back, and the line's end.
@@ -135,14 +135,14 @@ fn list(
 }
 
 // Whether the tree has a value.
-fn say_tree(rt: &impl Print, a: Answer) -> io::Result<bool> {
+fn say_tree(rt: &impl Print, a: Result<Value, Fault>) -> io::Result<bool> {
     match a {
-        Answer::Is(v) => {
+        Ok(v) => {
             say_value(rt, value::kind_of(v), value::payload_of(v))?;
             say(rt, b"\n")?;
             Ok(true)
         }
-        Answer::Fault(n) => {
+        Err(n) => {
             tell(rt, b"fault %", one(n as u64))?;
             say_meaning(rt, n)?;
             Ok(false)
@@ -230,16 +230,16 @@ struct Out {
     frame: u16,
 }
 
-fn out_of(c: Compiled) -> Out {
+fn out_of(c: Result<Compiled, Fault>) -> Out {
     match c {
-        Compiled::Done(words, slots, register, frame) => Out {
+        Ok(Compiled { words, slots, register, frame }) => Out {
             number: faults::NONE,
             words: words,
             slots: slots,
             register: register,
             frame: frame,
         },
-        Compiled::Refused(n) => Out {
+        Err(n) => Out {
             number: n,
             words: 0,
             slots: 0,
@@ -419,8 +419,8 @@ fn refuse(
     h: Head,
 ) -> io::Result<()> {
     say_refused(rt, n)?;
-    if faults::BAD_NODE <= n {
-        if n <= faults::NOT_LOCAL {
+    if Fault::BadNode <= n {
+        if n <= Fault::NotLocal {
             return say_where(rt, name, nodes, s, line, h);
         }
     }

@@ -1,4 +1,6 @@
 -- The branch rules: what the code's steps give is what the definition gives of the node's tree.
+use Rattle.std.specs.Prelude.{None, Result, Ok, Err}
+use Rattle.faults.specs.declared.Fault.{Fault}
 use mathlib.Core.Path.{◌≡◌, refl, sym, ap, subst, ◌∙◌}
 use mathlib.Core.Bool.{Bool, true, false, not}
 use mathlib.Core.List.{List}
@@ -13,11 +15,6 @@ use Rattle.table.proofs.Trees.{View, is_leaf, is-unary, is-binary, is-ternary, U
 use Rattle.table.proofs.Arities.{unary-code, binary-code, arith-codes, cmp-codes}
 use Rattle.insns.specs.declared.op.Cmp.{Cmp as JumpCmp}
 use Rattle.emit.specs.declared.state.St.{St}
-use Rattle.emit.specs.declared.state.Dst.TheVariants.{Any}
-use Rattle.emit.specs.declared.state.Ans.{Ans}
-use Rattle.emit.specs.declared.state.Ans.TheVariants.{Got, No}
-use Rattle.emit.specs.declared.jump.Jumps.{Jumps}
-use Rattle.emit.specs.declared.jump.Jumps.TheVariants as J
 use Rattle.fold.specs.declared.How.{How}
 use Rattle.emit.specs.State.{Res, bind, State}
 use Rattle.fold.specs.Opcodes.{branch_of}
@@ -41,7 +38,7 @@ module _ {ws c k p : List ℕ} {i : ℕ} {st : St} (ready : Ready ws (bufs c k p
   start = st_of (bufs c k p) st
 
   -- Not turns the sense round
-  pub not-branch : {j : ℕ} → kind_at ws i ≡ 7 → ChildIs ws i (child1 ws i) j → {b : Bufs} {js : List ℕ} {r : Jumps} → Lists b js r (branch_at ws j (not sense) room start) → Lists b js r (branch_at ws i sense room start)
+  pub not-branch : {j : ℕ} → kind_at ws i ≡ 7 → ChildIs ws i (child1 ws i) j → {b : Bufs} {js : List ℕ} {r : Result (ℕ × St) Fault} → Lists b js r (branch_at ws j (not sense) room start) → Lists b js r (branch_at ws i sense room start)
   unfolding gen
   not-branch e child h =
       let v = unary-in ready.node (omega numbers) (omega numbers) in
@@ -72,12 +69,12 @@ module _ {ws c k p : List ℕ} {i : ℕ} {st : St} (ready : Ready ws (bufs c k p
         by (is-binary or v) = clash (binary-code (kind_at ws i) or v.kind) refl
         by (is-ternary v) = at v.is tt
 
-    pub one-branch : (j : ℕ) {how : How} → pick_of (tree ws i) sense ≡ one (tree ws j) how → {c1 k1 p1 : List ℕ} {x : Ans} → Says (bufs c1 k1 p1) x (value_at ws j Any room start) →
-        {room' : ℕ} → room' ≡ room → {c2 js : List ℕ} {r : Jumps} → AfterJumping c1 c2 js x r (one_to how room' st.next) → Lists (bufs c2 k1 p1) js r (branch_at ws i sense room start)
+    pub one-branch : (j : ℕ) {how : How} → pick_of (tree ws i) sense ≡ one (tree ws j) how → {c1 k1 p1 : List ℕ} {x : Result (ℕ × St) Fault} → Says (bufs c1 k1 p1) x (value_at ws j None room start) →
+        {room' : ℕ} → room' ≡ room → {c2 js : List ℕ} {r : Result (ℕ × St) Fault} → AfterJumping c1 c2 js x r (one_to how room' st.next) → Lists (bufs c2 k1 p1) js r (branch_at ws i sense room start)
     unfolding one_b
     one-branch j {how} p {k1 = k1} {p1 = p1} h {room'} e g =
         lists-by
-        (ap (λ (q : ℕ). bind (value_at ws j Any room start) (one_to how q st.next)) e ∙ pick-one room start (tree ws i) sense alone p)
+        (ap (λ (q : ℕ). bind (value_at ws j None room start) (one_to how q st.next)) e ∙ pick-one room start (tree ws i) sense alone p)
         (chain-lists (one_to how room' st.next) h (g k1 p1))
 
   -- a branch that compares two values
@@ -101,17 +98,17 @@ module _ {ws c k p : List ℕ} {i : ℕ} {st : St} (ready : Ready ws (bufs c k p
         by and v = absurd (let e = binary-code (kind_at ws i) and v.kind in let g = pair.1 in omega numbers)
         by or v = absurd (let e = binary-code (kind_at ws i) or v.kind in let g = pair.1 in omega numbers)
 
-    module _ {l : ℕ} (left : ChildIs ws i (child2 ws i) l) {c1 k1 p1 : List ℕ} {x : Ans} (one : Says (bufs c1 k1 p1) x (value_at ws l Any room start)) where
-      pub pair-stop : (js : List ℕ) {n : ℕ} → x ≡ No n → Lists (bufs c1 k1 p1) js (J.No n) (branch_at ws i sense room start)
+    module _ {l : ℕ} (left : ChildIs ws i (child2 ws i) l) {c1 k1 p1 : List ℕ} {x : Result (ℕ × St) Fault} (one : Says (bufs c1 k1 p1) x (value_at ws l None room start)) where
+      pub pair-stop : (js : List ℕ) {n : Fault} → x ≡ Err n → Lists (bufs c1 k1 p1) js (Err n) (branch_at ws i sense room start)
       unfolding pair_b
       pair-stop js e =
           let w = pair_of in
-          lists-by w.1.is (stop-lists js (λ q. bind (value_at ws (child1 ws i) Any room q.1) (pair_to (branch_of w.0 sense) q.0 room st.next)) e (left_is room start left one))
+          lists-by w.1.is (stop-lists js (λ q. bind (value_at ws (child1 ws i) None room q.1) (pair_to (branch_of w.0 sense) q.0 room st.next)) e (left_is room start left one))
 
-      pub pair-branch : {a : ℕ} {s : St} → x ≡ Got a s → {r room' room'' : ℕ} → ChildIs ws i (child1 ws i) r → room' ≡ room →
-          {c2 k2 p2 : List ℕ} {y : Ans} → Says (bufs c2 k2 p2) y (value_at ws r Any room' (st_of (bufs c1 k1 p1) s)) → room'' ≡ room →
+      pub pair-branch : {a : ℕ} {s : St} → x ≡ Ok (a, s) → {r room' room'' : ℕ} → ChildIs ws i (child1 ws i) r → room' ≡ room →
+          {c2 k2 p2 : List ℕ} {y : Result (ℕ × St) Fault} → Says (bufs c2 k2 p2) y (value_at ws r None room' (st_of (bufs c1 k1 p1) s)) → room'' ≡ room →
           {kd : ℕ} → kd ≡ kind_at ws i → {op : JumpCmp} → ((o : Cmp) → kind_of kd ≡ binary_kind (cmp o) → op ≡ branch_of o sense) →
-          {c3 js : List ℕ} {z : Jumps} → AfterJumping c2 c3 js y z (pair_to op a room'' st.next) → Lists (bufs c3 k2 p2) js z (branch_at ws i sense room start)
+          {c3 js : List ℕ} {z : Result (ℕ × St) Fault} → AfterJumping c2 c3 js y z (pair_to op a room'' st.next) → Lists (bufs c3 k2 p2) js z (branch_at ws i sense room start)
       unfolding pair_b
       pair-branch {a} {s} got {r} {room'} {room''} right e {k2 = k2} {p2 = p2} two e' kd {op} cmps g =
           let w = pair_of in
@@ -119,8 +116,8 @@ module _ {ws c k p : List ℕ} {i : ℕ} {st : St} (ready : Ready ws (bufs c k p
           let p = chain-lists (pair_to op a room'' st.next) two (g k2 p2) in
           let o : op ≡ branch_of w.0 sense = cmps w.0 (ap kind_of kd ∙ w.1.kind) in
           lists-by
-          (ap (λ (q : JumpCmp). bind (value_at ws r Any room' (st_of (bufs c1 k1 p1) s)) (pair_to q a room'' st.next)) o
-          ∙ ap (λ (q : ℕ). bind (value_at ws r Any room' (st_of (bufs c1 k1 p1) s)) (pair_to (branch_of w.0 sense) a q st.next)) e'
+          (ap (λ (q : JumpCmp). bind (value_at ws r None room' (st_of (bufs c1 k1 p1) s)) (pair_to q a room'' st.next)) o
+          ∙ ap (λ (q : ℕ). bind (value_at ws r None room' (st_of (bufs c1 k1 p1) s)) (pair_to (branch_of w.0 sense) a q st.next)) e'
           ∙ both-steps room start left one f got right e
           ∙ w.1.is)
           p
@@ -146,21 +143,21 @@ module _ {ws c k p : List ℕ} {i : ℕ} {st : St} (ready : Ready ws (bufs c k p
         at and v = side v.is (binary-code (kind_at ws i) and v.kind) refl
         at or v = side v.is (binary-code (kind_at ws i) or v.kind) refl
 
-    module _ {a : ℕ} (left : ChildIs ws i (child2 ws i) a) {c1 k1 p1 l : List ℕ} {x : Jumps} (one : Lists (bufs c1 k1 p1) l x (branch_at ws a by room start)) where
+    module _ {a : ℕ} (left : ChildIs ws i (child2 ws i) a) {c1 k1 p1 l : List ℕ} {x : Result (ℕ × St) Fault} (one : Lists (bufs c1 k1 p1) l x (branch_at ws a by room start)) where
       first-is : Lists (bufs c1 k1 p1) l x (branch_at ws (child2 ws i) by room start)
       first-is = lists-by (ap (λ (q : ℕ). branch_at ws q by room start) left.is) one
 
       abbrev second : List ℕ × State → Res (List ℕ × State)
       second q = bind (branch_at ws (child1 ws i) sense (room - length q.0) q.1) (junction_to (same by sense) q.0)
 
-      pub junction-stop : {n : ℕ} → x ≡ J.No n → Lists (bufs c1 k1 p1) l x (branch_at ws i sense room start)
+      pub junction-stop : {n : Fault} → x ≡ Err n → Lists (bufs c1 k1 p1) l x (branch_at ws i sense room start)
       unfolding junction_b
       junction-stop e = lists-by junction-is (stop-jumps second e first-is)
 
-      pub junction-branch : {n : ℕ} {s : St} → x ≡ J.Are n s → {b room' : ℕ} → ChildIs ws i (child1 ws i) b → room' ≡ room - length (take n l) →
-          {c2 k2 p2 m : List ℕ} {y : Jumps} → Lists (bufs c2 k2 p2) m y (branch_at ws b sense room' (st_of (bufs c1 k1 p1) s)) →
+      pub junction-branch : {n : ℕ} {s : St} → x ≡ Ok (n, s) → {b room' : ℕ} → ChildIs ws i (child1 ws i) b → room' ≡ room - length (take n l) →
+          {c2 k2 p2 m : List ℕ} {y : Result (ℕ × St) Fault} → Lists (bufs c2 k2 p2) m y (branch_at ws b sense room' (st_of (bufs c1 k1 p1) s)) →
           (js : List ℕ) → take n js ≡ take n l → drop n js ≡ m → {sm : Bool} → sm ≡ same by sense →
-          {c3 js' : List ℕ} {r : Jumps} → Joined c2 c3 js js' sm n y r → Lists (bufs c3 k2 p2) js' r (branch_at ws i sense room start)
+          {c3 js' : List ℕ} {r : Result (ℕ × St) Fault} → Joined c2 c3 js js' sm n y r → Lists (bufs c3 k2 p2) js' r (branch_at ws i sense room start)
       unfolding junction_b
       junction-branch {n} {s} got {b} {room'} right e {c2} {k2} {p2} {m} {y} two js front back {sm} sames g =
           let S : State = st_of (bufs c1 k1 p1) s in

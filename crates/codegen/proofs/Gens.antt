@@ -1,16 +1,13 @@
 -- The generator's rules of a tree, by what one instruction takes in of it.
+use Rattle.std.specs.Prelude.{Option, Some, None}
+use Rattle.insns.specs.declared.op.Imm16.{Imm16}
 use mathlib.Core.Path.{◌≡◌, refl, sym, ap}
 use mathlib.Core.Bool.{Bool}
 use Prim.Native.Nat.{ℕ}
 use native.Mathlib.Omega.{arith as numbers}
 use Rattle.table.specs.Tree.{minus, not', Arith, Cmp, Binary, arith, cmp, and, or, Tree, leaf, unary, binary, ternary}
-use Rattle.emit.specs.declared.state.Dst.{Dst}
 use Rattle.fold.specs.declared.Tail.{Tail}
 use Rattle.fold.specs.declared.Tail.TheVariants as Tail
-use Rattle.fold.specs.declared.Fold.{Fold}
-use Rattle.fold.specs.declared.Fold.TheVariants.{Into, General}
-use Rattle.fold.specs.declared.literal.Imm.{Imm}
-use Rattle.fold.specs.declared.literal.Imm.TheVariants.{Imm16, NoImm}
 use Rattle.fold.specs.declared.How.{How}
 use Rattle.fold.specs.declared.How.TheVariants as How
 use Rattle.emit.specs.State.{State}
@@ -40,26 +37,26 @@ operand-is (Tail.Shift k n) a b o = refl
 operand-is (Tail.Mask lo len) a b o = refl
 operand-is (Tail.ShiftMask k lo len) a b o = first-is a
 
-module _ (dst : Dst) (room : ℕ) (s : State) where
+module _ (dst : Option ℕ) (room : ℕ) (s : State) where
   -- an operator that takes in all but one operand
   folds : (tail : Tail) (t u : Tree) → (gen u).value ≡ one_v tail (gen t).value → one_v tail (gen t).value dst room s ≡ (gen u).value dst room s
   folds tail t u e = ap (λ (v : Value). v dst room s) (sym e)
 
-  fold-of-binary : (tail : Tail) (o : Arith) (a b : Tree) (f : Fold) → f ≡ Into tail →
+  fold-of-binary : (tail : Tail) (o : Arith) (a b : Tree) (f : Option Tail) → f ≡ Some tail →
       one_v tail (gen (operand_of tail (binary (arith o) a b))).value dst room s ≡ binary_v f (three_of o) (gen a).value (gen a).first (gen b).value dst room s
   unfolding binary_v
   fold-of-binary tail o a b f e = rw (e, operand-is tail a b (arith o))
 
-  pub fold_is : (t : Tree) {tail : Tail} → op_fold t ≡ Into tail → one_v tail (gen (operand_of tail t)).value dst room s ≡ (gen t).value dst room s
+  pub fold_is : (t : Tree) {tail : Tail} → op_fold t ≡ Some tail → one_v tail (gen (operand_of tail t)).value dst room s ≡ (gen t).value dst room s
   unfolding gen op_fold
   fold_is (leaf l) e = absurd (let z : ◌≡◌ {A = ℕ} 0 1 = cc in omega numbers)
   fold_is (unary minus a) e = rw (into-is e)
     where
-      into-is : {a b : Tail} → Into a ≡ Into b → b ≡ a
+      into-is : {a b : Tail} → Some a ≡ Some b → b ≡ a
       into-is e = cc
   fold_is (unary not' a) e = rw (into-is e)
     where
-      into-is : {a b : Tail} → Into a ≡ Into b → b ≡ a
+      into-is : {a b : Tail} → Some a ≡ Some b → b ≡ a
       into-is e = cc
   fold_is (binary (arith o) a b) {tail} e = fold-of-binary tail o a b (fold_of o a b) e
   fold_is (binary (cmp c) a b) e = absurd (let z : ◌≡◌ {A = ℕ} 0 1 = cc in omega numbers)
@@ -68,7 +65,7 @@ module _ (dst : Dst) (room : ℕ) (s : State) where
   fold_is (ternary c a b) e = absurd (let z : ◌≡◌ {A = ℕ} 0 1 = cc in omega numbers)
 
   -- one that takes in nothing
-  pub general-is : (o : Arith) (a b : Tree) → fold_of o a b ≡ General → two_v (three_of o) (gen a).value (gen b).value dst room s ≡ (gen (binary (arith o) a b)).value dst room s
+  pub general-is : (o : Arith) (a b : Tree) → fold_of o a b ≡ None → two_v (three_of o) (gen a).value (gen b).value dst room s ≡ (gen (binary (arith o) a b)).value dst room s
   unfolding gen binary_v
   general-is o a b e = rw e
 
@@ -85,19 +82,19 @@ module _ (room : ℕ) (s : State) where
       let q : how ≡ h = cc in
       rw (p, q)
 
-  compare-one : (c : Cmp) (a b : Tree) (l r : Imm) (sense : Bool) {u : Tree} {how : How} → compare_pick c a b l r sense ≡ one u how →
+  compare-one : (c : Cmp) (a b : Tree) (l r : Option Imm16) (sense : Bool) {u : Tree} {how : How} → compare_pick c a b l r sense ≡ one u how →
       one_b how (gen u).value room s ≡ compare_b c l r (gen a).value (gen b).value sense room s
   unfolding compare_b
-  compare-one c a b l (Imm16 n) sense e = one-is e
-  compare-one c a b (Imm16 n) NoImm sense e = one-is e
-  compare-one c a b NoImm NoImm sense e = absurd (let z : ◌≡◌ {A = ℕ} 0 1 = cc in omega numbers)
+  compare-one c a b l (Some n) sense e = one-is e
+  compare-one c a b (Some n) None sense e = one-is e
+  compare-one c a b None None sense e = absurd (let z : ◌≡◌ {A = ℕ} 0 1 = cc in omega numbers)
 
-  compare-both : (c : Cmp) (a b : Tree) (l r : Imm) (sense : Bool) → compare_pick c a b l r sense ≡ two →
+  compare-both : (c : Cmp) (a b : Tree) (l r : Option Imm16) (sense : Bool) → compare_pick c a b l r sense ≡ two →
       pair_b (branch_of c sense) (gen a).value (gen b).value room s ≡ compare_b c l r (gen a).value (gen b).value sense room s
   unfolding compare_b
-  compare-both c a b l (Imm16 n) sense e = absurd (let z : ◌≡◌ {A = ℕ} 0 1 = cc in omega numbers)
-  compare-both c a b (Imm16 n) NoImm sense e = absurd (let z : ◌≡◌ {A = ℕ} 0 1 = cc in omega numbers)
-  compare-both c a b NoImm NoImm sense e = refl
+  compare-both c a b l (Some n) sense e = absurd (let z : ◌≡◌ {A = ℕ} 0 1 = cc in omega numbers)
+  compare-both c a b (Some n) None sense e = absurd (let z : ◌≡◌ {A = ℕ} 0 1 = cc in omega numbers)
+  compare-both c a b None None sense e = refl
 
   -- a tree whose branch is not made of others' branches
   abbrev pub Alone : Tree → Type 0

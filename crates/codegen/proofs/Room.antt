@@ -1,4 +1,7 @@
 -- A jump list of half as many places as a tree has nodes is enough: with that room or more the rules give the same.
+use Rattle.std.specs.Prelude.{Option, Some, None}
+use Rattle.insns.specs.declared.op.Imm16.{Imm16}
+use Rattle.insns.specs.declared.Insn.{Insn}
 use mathlib.Core.Path.{◌≡◌, refl, ap, ◌∙◌}
 use mathlib.Core.Bool.{Bool, true, false, not, cond}
 use mathlib.Core.List.{List, [], ◌∷◌, ◌++◌}
@@ -9,17 +12,10 @@ use lib.ListN.{length, length-append}
 use borrow.Author.Tests.{lt-ltb}
 use Rattle.faults.specs.Numbers.{no_room}
 use Rattle.table.specs.Tree.{minus, not', Cmp, arith, cmp, and, or, Tree, leaf, unary, binary, ternary, size}
-use Rattle.insns.specs.declared.Made.{Made}
 use Rattle.insns.specs.declared.op.Three.{Three}
 use Rattle.insns.specs.declared.op.Cmp.{Cmp as JumpCmp}
-use Rattle.emit.specs.declared.state.Dst.{Dst}
-use Rattle.emit.specs.declared.state.Dst.TheVariants.{Any, To}
 use Rattle.fold.specs.declared.Tail.{Tail}
 use Rattle.fold.specs.declared.Tail.TheVariants as Tail
-use Rattle.fold.specs.declared.Fold.{Fold}
-use Rattle.fold.specs.declared.Fold.TheVariants.{Into, General}
-use Rattle.fold.specs.declared.literal.Imm.{Imm}
-use Rattle.fold.specs.declared.literal.Imm.TheVariants.{Imm16, NoImm}
 use Rattle.fold.specs.declared.How.{How}
 use Rattle.fold.specs.declared.How.TheVariants as How
 use Rattle.emit.specs.State.{Res, done, fail, bind, State, here, dest_d, store_d}
@@ -76,7 +72,7 @@ size-some (unary o a) = omega numbers
 size-some (binary o a b) = omega numbers
 size-some (ternary a b c) = omega numbers
 
-leap-few : (n : ℕ) (made : Made) (room : ℕ) (s : State) → 1 ≤ n → Given (Few n) (leap_d made room s)
+leap-few : (n : ℕ) (made : Option Insn) (room : ℕ) (s : State) → 1 ≤ n → Given (Few n) (leap_d made room s)
 unfolding leap_d
 leap-few n made room s h = pick (ltb 0 room)
   where
@@ -90,19 +86,19 @@ leap-few n made room s h = pick (ltb 0 room)
 
 one-few : (n : ℕ) (how : How) (v : Value) (room : ℕ) (s : State) → 1 ≤ n → Given (Few n) (one_b how v room s)
 unfolding one_b leap_to
-one-few n how v room s h = then-given Always (Few n) (v Any room s) (one_to how room s.next) (always (v Any room s)) (λ a u. leap-few n _ room _ h)
+one-few n how v room s h = then-given Always (Few n) (v None room s) (one_to how room s.next) (always (v None room s)) (λ a u. leap-few n _ room _ h)
 
 pair-few : (n : ℕ) (c : JumpCmp) (v w : Value) (room : ℕ) (s : State) → 1 ≤ n → Given (Few n) (pair_b c v w room s)
 unfolding pair_b leap_to
 pair-few n c v w room s h =
-    then-given Always (Few n) (v Any room s) (λ x. bind (w Any room x.1) (pair_to c x.0 room s.next)) (always (v Any room s)) λ x u.
-    then-given Always (Few n) (w Any room x.1) (pair_to c x.0 room s.next) (always (w Any room x.1)) (λ y z. leap-few n _ room _ h)
+    then-given Always (Few n) (v None room s) (λ x. bind (w None room x.1) (pair_to c x.0 room s.next)) (always (v None room s)) λ x u.
+    then-given Always (Few n) (w None room x.1) (pair_to c x.0 room s.next) (always (w None room x.1)) (λ y z. leap-few n _ room _ h)
 
-compare-few : (n : ℕ) (c : Cmp) (l r : Imm) (v w : Value) (sense : Bool) (room : ℕ) (s : State) → 1 ≤ n → Given (Few n) (compare_b c l r v w sense room s)
+compare-few : (n : ℕ) (c : Cmp) (l r : Option Imm16) (v w : Value) (sense : Bool) (room : ℕ) (s : State) → 1 ≤ n → Given (Few n) (compare_b c l r v w sense room s)
 unfolding compare_b
-compare-few n c l (Imm16 k) v w sense room s h = one-few n _ v room s h
-compare-few n c (Imm16 k) NoImm v w sense room s h = one-few n _ w room s h
-compare-few n c NoImm NoImm v w sense room s h = pair-few n _ v w room s h
+compare-few n c l (Some k) v w sense room s h = one-few n _ v room s h
+compare-few n c (Some k) None v w sense room s h = one-few n _ w room s h
+compare-few n c None None v w sense room s h = pair-few n _ v w room s h
 
 join-few : (p q : ℕ) (b : Bool) (l : List ℕ) (y : List ℕ × State) → 2 * length l ≤ p + 1 → Few q y → Given (Few (p + q + 1)) (junction_to b l y)
 unfolding junction_to
@@ -134,26 +130,26 @@ few (ternary c a b) sense room s = one-few (size c + size a + size b + 1) (How.B
 
 -- ---- the same with either room
 
-pub into-same : (v : Value) (d q q' : ℕ) (s : State) → v (To d) q s ≡ v (To d) q' s → into_d v d q s ≡ into_d v d q' s
+pub into-same : (v : Value) (d q q' : ℕ) (s : State) → v (Some d) q s ≡ v (Some d) q' s → into_d v d q s ≡ into_d v d q' s
 unfolding into_d
 into-same v d q q' s e = ap (λ (z : Res (ℕ × State)). bind z (move_to d s.next)) e
 
 module _ (r r' : ℕ) where
   abbrev SameV : Value → Type 0
-  SameV v = (dst : Dst) (s : State) → v dst r s ≡ v dst r' s
+  SameV v = (dst : Option ℕ) (s : State) → v dst r s ≡ v dst r' s
 
   abbrev SameB : Branch → Type 0
   SameB b = (sense : Bool) (s : State) → b sense r s ≡ b sense r' s
 
   one_value : (tail : Tail) (v : Value) → SameV v → SameV (one_v tail v)
   unfolding one_v
-  one_value tail v h dst s = ap (λ (q : Res (ℕ × State)). bind q (tail_to tail dst s.next)) (h Any s)
+  one_value tail v h dst s = ap (λ (q : Res (ℕ × State)). bind q (tail_to tail dst s.next)) (h None s)
 
   two-value : (op : Three) (v w : Value) → SameV v → SameV w → SameV (two_v op v w)
   unfolding two_v
   two-value op v w h g dst s =
-      bind-same Always _ _ (h Any s) (always (v Any r s)) λ (x : ℕ × State) u.
-      ap (λ (q : Res (ℕ × State)). bind q (three_to op x.0 dst s.next)) (g Any x.1)
+      bind-same Always _ _ (h None s) (always (v None r s)) λ (x : ℕ × State) u.
+      ap (λ (q : Res (ℕ × State)). bind q (three_to op x.0 dst s.next)) (g None x.1)
 
   operand-value : (tail : Tail) (v f : Value) → SameV v → SameV f → SameV (operand tail v f)
   operand-value Tail.Not v f h g = h
@@ -162,10 +158,10 @@ module _ (r r' : ℕ) where
   operand-value (Tail.Mask lo len) v f h g = h
   operand-value (Tail.ShiftMask n lo len) v f h g = g
 
-  binary-value : (f : Fold) (op : Three) (v e w : Value) → SameV v → SameV e → SameV w → SameV (binary_v f op v e w)
+  binary-value : (f : Option Tail) (op : Three) (v e w : Value) → SameV v → SameV e → SameV w → SameV (binary_v f op v e w)
   unfolding binary_v
-  binary-value (Into tail) op v e w h i g dst s = one_value tail (operand tail v e) (operand-value tail v e h i) dst s
-  binary-value General op v e w h i g dst s = two-value op v w h g dst s
+  binary-value (Some tail) op v e w h i g dst s = one_value tail (operand tail v e) (operand-value tail v e h i) dst s
+  binary-value None op v e w h i g dst s = two-value op v w h g dst s
 
   cond_value : (b : Branch) → SameB b → SameV (cond_v b)
   unfolding cond_v
@@ -173,25 +169,25 @@ module _ (r r' : ℕ) where
       rest-same (dest_d dst s) (λ (d : ℕ × State). ap (λ (q : Res (List ℕ × State)). bind q (λ (js : List ℕ × State). bool_d js.0 d.0 js.1)) (h true d.1))
 
   module _ (some : 0 < r) (some' : 0 < r') where
-    leap-same : (made : Made) (s : State) → leap_d made r s ≡ leap_d made r' s
+    leap-same : (made : Option Insn) (s : State) → leap_d made r s ≡ leap_d made r' s
     unfolding leap_d
     leap-same made s = rw (lt-ltb 0 r some, lt-ltb 0 r' some')
 
     one-branch : (how : How) (v : Value) (s : State) → SameV v → one_b how v r s ≡ one_b how v r' s
     unfolding one_b leap_to
-    one-branch how v s h = bind-same Always _ _ (h Any s) (always (v Any r s)) (λ x u. leap-same _ _)
+    one-branch how v s h = bind-same Always _ _ (h None s) (always (v None r s)) (λ x u. leap-same _ _)
 
     pair-branch : (c : JumpCmp) (v w : Value) (s : State) → SameV v → SameV w → pair_b c v w r s ≡ pair_b c v w r' s
     unfolding pair_b leap_to
     pair-branch c v w s h g =
-        bind-same Always _ _ (h Any s) (always (v Any r s)) λ (x : ℕ × State) u.
-        bind-same Always _ _ (g Any x.1) (always (w Any r x.1)) (λ y z. leap-same _ _)
+        bind-same Always _ _ (h None s) (always (v None r s)) λ (x : ℕ × State) u.
+        bind-same Always _ _ (g None x.1) (always (w None r x.1)) (λ y z. leap-same _ _)
 
-    compare-branch : (c : Cmp) (l k : Imm) (v w : Value) → SameV v → SameV w → SameB (compare_b c l k v w)
+    compare-branch : (c : Cmp) (l k : Option Imm16) (v w : Value) → SameV v → SameV w → SameB (compare_b c l k v w)
     unfolding compare_b
-    compare-branch c l (Imm16 n) v w h g sense s = one-branch _ v s h
-    compare-branch c (Imm16 n) NoImm v w h g sense s = one-branch _ w s g
-    compare-branch c NoImm NoImm v w h g sense s = pair-branch _ v w s h g
+    compare-branch c l (Some n) v w h g sense s = one-branch _ v s h
+    compare-branch c (Some n) None v w h g sense s = one-branch _ w s g
+    compare-branch c None None v w h g sense s = pair-branch _ v w s h g
 
   junction-branch : (p : ℕ) (by : Bool) (a b : Branch) → SameB a → ((sense : Bool) (s : State) → Given (Few p) (a sense r s)) →
       ((n : ℕ) → 2 * n ≤ p + 1 → (sense : Bool) (s : State) → b sense (r - n) s ≡ b sense (r' - n) s) → SameB (junction_b by a b)
@@ -211,19 +207,19 @@ module _ (r r' : ℕ) where
       ap (λ (q : Res (ℕ × State)). bind q (λ (z : ℕ × State). patch_d (here x.1) d z.1)) (g y.1)))
 
   ternary-value : (p : ℕ) (t : Branch) (a b : Value) → SameB t → ((sense : Bool) (s : State) → Given (Few p) (t sense r s)) →
-      ((n : ℕ) → 2 * n ≤ p + 1 → (dst : Dst) (s : State) → a dst (r - n) s ≡ a dst (r' - n) s) → SameV b → SameV (ternary_v t a b)
+      ((n : ℕ) → 2 * n ≤ p + 1 → (dst : Option ℕ) (s : State) → a dst (r - n) s ≡ a dst (r' - n) s) → SameV b → SameV (ternary_v t a b)
   unfolding ternary_v
   ternary-value p t a b h f g k dst s =
       rest-same (dest_d dst s) (λ (d : ℕ × State).
       bind-same (Few p) (arms_d a b d.0 r) (arms_d a b d.0 r') (h false d.1) (f false d.1) (λ (js : List ℕ × State) v.
       arms-value a b d.0 js
-      (λ s. into-same a d.0 _ _ s (g (length js.0) v (To d.0) s))
-      (λ s. into-same b d.0 r r' s (k (To d.0) s))))
+      (λ s. into-same a d.0 _ _ s (g (length js.0) v (Some d.0) s))
+      (λ s. into-same b d.0 r r' s (k (Some d.0) s))))
 
 pub record Same (t : Tree) (r r' : ℕ) : Type 0 where
-  pub value : (dst : Dst) (s : State) → (gen t).value dst r s ≡ (gen t).value dst r' s
+  pub value : (dst : Option ℕ) (s : State) → (gen t).value dst r s ≡ (gen t).value dst r' s
   pub branch : (sense : Bool) (s : State) → (gen t).branch sense r s ≡ (gen t).branch sense r' s
-  pub first : (dst : Dst) (s : State) → (gen t).first dst r s ≡ (gen t).first dst r' s
+  pub first : (dst : Option ℕ) (s : State) → (gen t).first dst r s ≡ (gen t).first dst r' s
 
 tested : (r r' : ℕ) (v : Value) → 0 < r → 0 < r' → SameV r r' v → SameB r r' (test_b v)
 tested r r' v p q h sense s = one-branch r r' p q (How.Bool sense) v s h

@@ -1,4 +1,6 @@
 -- The value rules: what the code's steps give is what the definition gives of the node's tree.
+use Rattle.std.specs.Prelude.{Option, Some, None, Result, Ok, Err}
+use Rattle.faults.specs.declared.Fault.{Fault}
 use mathlib.Core.Path.{◌≡◌, refl, sym, ap, subst, ◌∙◌}
 use mathlib.Core.Bool.{true, false}
 use mathlib.Core.List.{List}
@@ -13,14 +15,7 @@ use Rattle.table.proofs.Trees.{BinaryAt, leaf-in, binary-in, ternary-in}
 use Rattle.table.proofs.Arities.{binary-code, arith-codes, cmp-codes}
 use Rattle.insns.specs.declared.op.Three.{Three}
 use Rattle.emit.specs.declared.state.St.{St}
-use Rattle.emit.specs.declared.state.Dst.{Dst}
-use Rattle.emit.specs.declared.state.Dst.TheVariants.{Any, To}
-use Rattle.emit.specs.declared.state.Ans.{Ans}
-use Rattle.emit.specs.declared.state.Ans.TheVariants.{Got, No}
-use Rattle.emit.specs.declared.jump.Jumps.{Jumps}
-use Rattle.emit.specs.declared.jump.Jumps.TheVariants as J
 use Rattle.fold.specs.declared.Tail.{Tail}
-use Rattle.fold.specs.declared.Fold.TheVariants.{Into}
 use Rattle.emit.specs.State.{Res, bind, State, here, dest_d}
 use Rattle.emit.specs.Jump.{patch_d}
 use Rattle.fold.specs.Nodes.{op_fold}
@@ -37,15 +32,15 @@ use Rattle.codegen.proofs.Gens.{fold_is, general-is}
 use Rattle.codegen.proofs.Parts.{go-jumps, stop-says, kept-jumps, left_is, both-steps}
 
 -- the value rule of a tree
-abbrev of_value : Dst → ℕ → State → Tree → Res (ℕ × State)
+abbrev of_value : Option ℕ → ℕ → State → Tree → Res (ℕ × State)
 of_value dst room s t = (gen t).value dst room s
 
-module _ {ws c k p : List ℕ} {i : ℕ} {st : St} (ready : Ready ws (bufs c k p) i st) (dst : Dst) (room : ℕ) where
+module _ {ws c k p : List ℕ} {i : ℕ} {st : St} (ready : Ready ws (bufs c k p) i st) (dst : Option ℕ) (room : ℕ) where
   abbrev start : State
   start = st_of (bufs c k p) st
 
   -- a leaf
-  pub leaf-value : {b : Bufs} {r : Ans} → kind_at ws i ≤ 5 →
+  pub leaf-value : {b : Bufs} {r : Result (ℕ × St) Fault} → kind_at ws i ≤ 5 →
       ((f : ℕ → Leaf) → kind_of (kind_at ws i) ≡ leaf_kind f → Says b r (leaf_d (f (payload_at ws i)) dst start)) → Says b r (value_at ws i dst room start)
   unfolding gen leaf_v
   leaf-value h g =
@@ -53,12 +48,12 @@ module _ {ws c k p : List ℕ} {i : ℕ} {st : St} (ready : Ready ws (bufs c k p
       says-by (sym (ap (of_value dst room start) v.1.is)) (g v.0 v.1.kind)
 
   -- an operator that takes in all but one operand
-  pub fold-value : {c1 k1 p1 c2 : List ℕ} {x r : Ans} {tail : Tail} {j : ℕ} → Operand ws i tail j → op_fold (tree ws i) ≡ Into tail →
-      Says (bufs c1 k1 p1) x (value_at ws j Any room start) → After c1 c2 x r (tail_to tail dst st.next) → Says (bufs c2 k1 p1) r (value_at ws i dst room start)
+  pub fold-value : {c1 k1 p1 c2 : List ℕ} {x r : Result (ℕ × St) Fault} {tail : Tail} {j : ℕ} → Operand ws i tail j → op_fold (tree ws i) ≡ Some tail →
+      Says (bufs c1 k1 p1) x (value_at ws j None room start) → After c1 c2 x r (tail_to tail dst st.next) → Says (bufs c2 k1 p1) r (value_at ws i dst room start)
   unfolding one_v
   fold-value {k1 = k1} {p1 = p1} {tail = tail} o e h g =
       let p = chain (tail_to tail dst st.next) h (g k1 p1) in
-      says-by (ap (λ (q : Tree). bind ((gen q).value Any room start) (tail_to tail dst st.next)) o.is ∙ fold_is dst room start (tree ws i) e) p
+      says-by (ap (λ (q : Tree). bind ((gen q).value None room start) (tail_to tail dst st.next)) o.is ∙ fold_is dst room start (tree ws i) e) p
 
   -- an operator of two registers
   module _ (general : IsGeneral ws i) where
@@ -82,17 +77,17 @@ module _ {ws c k p : List ℕ} {i : ℕ} {st : St} (ready : Ready ws (bufs c k p
         by and v = absurd (let e = binary-code (kind_at ws i) and v.kind in let g = general.1 in omega numbers)
         by or v = absurd (let e = binary-code (kind_at ws i) or v.kind in let g = general.1 in omega numbers)
 
-    module _ {l : ℕ} (left : ChildIs ws i (child2 ws i) l) {c1 k1 p1 : List ℕ} {x : Ans} (one : Says (bufs c1 k1 p1) x (value_at ws l Any room start)) where
-      pub two-stop : {n : ℕ} → x ≡ No n → Says (bufs c1 k1 p1) x (value_at ws i dst room start)
+    module _ {l : ℕ} (left : ChildIs ws i (child2 ws i) l) {c1 k1 p1 : List ℕ} {x : Result (ℕ × St) Fault} (one : Says (bufs c1 k1 p1) x (value_at ws l None room start)) where
+      pub two-stop : {n : Fault} → x ≡ Err n → Says (bufs c1 k1 p1) x (value_at ws i dst room start)
       unfolding two_v
       two-stop e =
           let w = two-of in
-          says-by w.1.is (stop (λ q. bind (value_at ws (child1 ws i) Any room q.1) (three_to (three_of w.0) q.0 dst st.next)) e (left_is room start left one))
+          says-by w.1.is (stop (λ q. bind (value_at ws (child1 ws i) None room q.1) (three_to (three_of w.0) q.0 dst st.next)) e (left_is room start left one))
 
-      pub two-value : {a : ℕ} {s : St} → x ≡ Got a s → {r room' : ℕ} → ChildIs ws i (child1 ws i) r → room' ≡ room →
-          {c2 k2 p2 : List ℕ} {y : Ans} → Says (bufs c2 k2 p2) y (value_at ws r Any room' (st_of (bufs c1 k1 p1) s)) →
+      pub two-value : {a : ℕ} {s : St} → x ≡ Ok (a, s) → {r room' : ℕ} → ChildIs ws i (child1 ws i) r → room' ≡ room →
+          {c2 k2 p2 : List ℕ} {y : Result (ℕ × St) Fault} → Says (bufs c2 k2 p2) y (value_at ws r None room' (st_of (bufs c1 k1 p1) s)) →
           {kd : ℕ} → kd ≡ kind_at ws i → {op : Three} → ((o : Arith) → kind_of kd ≡ binary_kind (arith o) → op ≡ three_of o) →
-          {c3 : List ℕ} {z : Ans} → After c2 c3 y z (three_to op a dst st.next) → Says (bufs c3 k2 p2) z (value_at ws i dst room start)
+          {c3 : List ℕ} {z : Result (ℕ × St) Fault} → After c2 c3 y z (three_to op a dst st.next) → Says (bufs c3 k2 p2) z (value_at ws i dst room start)
       unfolding two_v
       two-value {a} {s} got {r} {room'} right e {k2 = k2} {p2 = p2} two kd {op} three g =
           let w = two-of in
@@ -100,7 +95,7 @@ module _ {ws c k p : List ℕ} {i : ℕ} {st : St} (ready : Ready ws (bufs c k p
           let p = chain (three_to op a dst st.next) two (g k2 p2) in
           let o : op ≡ three_of w.0 = three w.0 (ap kind_of kd ∙ w.1.kind) in
           says-by
-          (ap (λ (q : Three). bind (value_at ws r Any room' (st_of (bufs c1 k1 p1) s)) (three_to q a dst st.next)) o ∙ both-steps room start left one f got right e ∙ w.1.is)
+          (ap (λ (q : Three). bind (value_at ws r None room' (st_of (bufs c1 k1 p1) s)) (three_to q a dst st.next)) o ∙ both-steps room start left one f got right e ∙ w.1.is)
           p
 
   -- the destination, then the branch of a condition, then the two loads
@@ -118,20 +113,20 @@ module _ {ws c k p : List ℕ} {i : ℕ} {st : St} (ready : Ready ws (bufs c k p
         by and v = at-tree v.is refl
         by or v = at-tree v.is refl
 
-    module _ {x : Ans} (to : (c : List ℕ) → Steps c c st x (dest_d dst)) where
-      pub cond-stop : {n : ℕ} → x ≡ No n → Says (bufs c k p) x (value_at ws i dst room start)
+    module _ {x : Result (ℕ × St) Fault} (to : (c : List ℕ) → Steps c c st x (dest_d dst)) where
+      pub cond-stop : {n : Fault} → x ≡ Err n → Says (bufs c k p) x (value_at ws i dst room start)
       unfolding cond_v
       cond-stop e = says-by cond-is (stop (λ d. bind (branch_at ws i true room d.1) (λ js. bool_d js.0 d.0 js.1)) e (to c k p ready.fit))
 
-      module _ {d : ℕ} {s : St} (got : x ≡ Got d s) {c1 k1 p1 js : List ℕ} {y : Jumps} (test : Lists (bufs c1 k1 p1) js y (branch_at ws i true room (st_of (bufs c k p) s))) where
+      module _ {d : ℕ} {s : St} (got : x ≡ Ok (d, s)) {c1 k1 p1 js : List ℕ} {y : Result (ℕ × St) Fault} (test : Lists (bufs c1 k1 p1) js y (branch_at ws i true room (st_of (bufs c k p) s))) where
         cond-from : bind (branch_at ws i true room (st_of (bufs c k p) s)) (λ js. bool_d js.0 d js.1) ≡ value_at ws i dst room start
         unfolding cond_v
         cond-from = go (λ d. bind (branch_at ws i true room d.1) (λ js. bool_d js.0 d.0 js.1)) got (to c k p ready.fit) ∙ cond-is
 
-        pub cond-refused : {n : ℕ} → y ≡ J.No n → Says (bufs c1 k1 p1) (No n) (value_at ws i dst room start)
+        pub cond-refused : {n : Fault} → y ≡ Err n → Says (bufs c1 k1 p1) (Err n) (value_at ws i dst room start)
         cond-refused e = says-by cond-from (stop-says (λ js. bool_d js.0 d js.1) e test)
 
-        pub cond_value : {n : ℕ} {t : St} → y ≡ J.Are n t → {c2 : List ℕ} {r : Ans} → Steps c1 c2 t r (bool_d (take n js) d) → Says (bufs c2 k1 p1) r (value_at ws i dst room start)
+        pub cond_value : {n : ℕ} {t : St} → y ≡ Ok (n, t) → {c2 : List ℕ} {r : Result (ℕ × St) Fault} → Steps c1 c2 t r (bool_d (take n js) d) → Says (bufs c2 k1 p1) r (value_at ws i dst room start)
         cond_value e g = says-by (go-jumps (λ js. bool_d js.0 d js.1) e test ∙ cond-from) (g k1 p1 (kept-jumps e test))
 
   -- the destination, then the test's branch, then the arms
@@ -143,13 +138,13 @@ module _ {ws c k p : List ℕ} {i : ℕ} {st : St} (ready : Ready ws (bufs c k p
     abbrev arms : ℕ → List ℕ × State → Res (ℕ × State)
     arms d = arms_d (value_at ws (child2 ws i)) (value_at ws (child1 ws i)) d room
 
-    module _ {x : Ans} (to : (c : List ℕ) → Steps c c st x (dest_d dst)) where
-      pub ternary-stop : {n : ℕ} → x ≡ No n → Says (bufs c k p) x (value_at ws i dst room start)
+    module _ {x : Result (ℕ × St) Fault} (to : (c : List ℕ) → Steps c c st x (dest_d dst)) where
+      pub ternary-stop : {n : Fault} → x ≡ Err n → Says (bufs c k p) x (value_at ws i dst room start)
       unfolding ternary_v
       ternary-stop e = says-by ternary-is (stop (λ d. bind (branch_at ws (child3 ws i) false room d.1) (arms d.0)) e (to c k p ready.fit))
 
-      module _ {d : ℕ} {s : St} (got : x ≡ Got d s) {j : ℕ} (child : ChildIs ws i (child3 ws i) j)
-          {c1 k1 p1 js : List ℕ} {y : Jumps} (test : Lists (bufs c1 k1 p1) js y (branch_at ws j false room (st_of (bufs c k p) s))) where
+      module _ {d : ℕ} {s : St} (got : x ≡ Ok (d, s)) {j : ℕ} (child : ChildIs ws i (child3 ws i) j)
+          {c1 k1 p1 js : List ℕ} {y : Result (ℕ × St) Fault} (test : Lists (bufs c1 k1 p1) js y (branch_at ws j false room (st_of (bufs c k p) s))) where
         ternary-from : bind (branch_at ws j false room (st_of (bufs c k p) s)) (arms d) ≡ value_at ws i dst room start
         unfolding ternary_v
         ternary-from =
@@ -157,10 +152,10 @@ module _ {ws c k p : List ℕ} {i : ℕ} {st : St} (ready : Ready ws (bufs c k p
             ∙ go (λ d. bind (branch_at ws (child3 ws i) false room d.1) (arms d.0)) got (to c k p ready.fit)
             ∙ ternary-is
 
-        pub ternary-refused : {n : ℕ} → y ≡ J.No n → Says (bufs c1 k1 p1) (No n) (value_at ws i dst room start)
+        pub ternary-refused : {n : Fault} → y ≡ Err n → Says (bufs c1 k1 p1) (Err n) (value_at ws i dst room start)
         ternary-refused e = says-by ternary-from (stop-says (arms d) e test)
 
-        pub ternary-value : {n : ℕ} {t : St} → y ≡ J.Are n t → {b : Bufs} {r : Ans} {room' : ℕ} → room' ≡ room →
+        pub ternary-value : {n : ℕ} {t : St} → y ≡ Ok (n, t) → {b : Bufs} {r : Result (ℕ × St) Fault} {room' : ℕ} → room' ≡ room →
             Says b r (arms_d (value_at ws (child2 ws i)) (value_at ws (child1 ws i)) d room' (take n js, st_of (bufs c1 k1 p1) t)) → Says b r (value_at ws i dst room start)
         ternary-value {n} {t} e r h =
             says-by
@@ -168,7 +163,7 @@ module _ {ws c k p : List ℕ} {i : ℕ} {st : St} (ready : Ready ws (bufs c k p
             h
 
 -- a move
-pub into-value : (ws : List ℕ) (i d room : ℕ) (start : State) {c1 k1 p1 c2 : List ℕ} {x r : Ans} → Says (bufs c1 k1 p1) x (value_at ws i (To d) room start) →
+pub into-value : (ws : List ℕ) (i d room : ℕ) (start : State) {c1 k1 p1 c2 : List ℕ} {x r : Result (ℕ × St) Fault} → Says (bufs c1 k1 p1) x (value_at ws i (Some d) room start) →
     After c1 c2 x r (move_to d start.next) → Says (bufs c2 k1 p1) r (into_d (value_at ws i) d room start)
 unfolding into_d
 into-value ws i d room start {k1 = k1} {p1 = p1} h g = chain (move_to d start.next) h (g k1 p1)
@@ -176,7 +171,7 @@ into-value ws i d room start {k1 = k1} {p1 = p1} h g = chain (move_to d start.ne
 -- the arms of a ternary: the then side, the turn, the else side, the end
 module _ {ws : List ℕ} {i : ℕ} (d room : ℕ) (js : List ℕ) (start : State)
     {a room1 : ℕ} (yes : ChildIs ws i (child2 ws i) a) (rest : room1 ≡ room - length js)
-    {c1 k1 p1 : List ℕ} {x : Ans} (one : Says (bufs c1 k1 p1) x (into_d (value_at ws a) d room1 start)) where
+    {c1 k1 p1 : List ℕ} {x : Result (ℕ × St) Fault} (one : Says (bufs c1 k1 p1) x (into_d (value_at ws a) d room1 start)) where
   abbrev all : Res (ℕ × State)
   all = arms_d (value_at ws (child2 ws i)) (value_at ws (child1 ws i)) d room (js, start)
 
@@ -192,11 +187,11 @@ module _ {ws : List ℕ} {i : ℕ} (d room : ℕ) (js : List ℕ) (start : State
       (ap (λ (q : ℕ). into_d (value_at ws q) d room1 start) yes.is ∙ ap (λ (q : ℕ). into_d (value_at ws (child2 ws i)) d q start) rest)
       one
 
-  pub arms-stop : {n : ℕ} → x ≡ No n → Says (bufs c1 k1 p1) x all
+  pub arms-stop : {n : Fault} → x ≡ Err n → Says (bufs c1 k1 p1) x all
   unfolding arms_d
   arms-stop e = stop turned e then_is
 
-  module _ {e : ℕ} {s : St} (got : x ≡ Got e s) {js' c2 : List ℕ} {y : Ans} (front : js' ≡ js) (turn : Steps c1 c2 s y (turn_d js' d)) where
+  module _ {e : ℕ} {s : St} (got : x ≡ Ok (e, s)) {js' c2 : List ℕ} {y : Result (ℕ × St) Fault} (front : js' ≡ js) (turn : Steps c1 c2 s y (turn_d js' d)) where
     turn_is : Says (bufs c2 k1 p1) y (turn_d js d (st_of (bufs c1 k1 p1) s))
     turn_is = says-by (ap (λ (q : List ℕ). turn_d q d (st_of (bufs c1 k1 p1) s)) front) (turn k1 p1 (kept got one))
 
@@ -204,12 +199,12 @@ module _ {ws : List ℕ} {i : ℕ} (d room : ℕ) (js : List ℕ) (start : State
     unfolding arms_d
     from-turn = go turned got then_is
 
-    pub arms-turned : {n : ℕ} → y ≡ No n → Says (bufs c2 k1 p1) y all
+    pub arms-turned : {n : Fault} → y ≡ Err n → Says (bufs c2 k1 p1) y all
     arms-turned n = says-by from-turn (stop (last (here (st_of (bufs c1 k1 p1) s))) n turn_is)
 
-    pub arms-value : {e' : ℕ} {t : St} → y ≡ Got e' t → {b room2 : ℕ} → ChildIs ws i (child1 ws i) b → room2 ≡ room →
-        {c3 k3 p3 : List ℕ} {z : Ans} → Says (bufs c3 k3 p3) z (into_d (value_at ws b) d room2 (st_of (bufs c2 k1 p1) t)) →
-        {c4 : List ℕ} {r : Ans} → After c3 c4 z r (λ q. patch_d s.count d q.1) → Says (bufs c4 k3 p3) r all
+    pub arms-value : {e' : ℕ} {t : St} → y ≡ Ok (e', t) → {b room2 : ℕ} → ChildIs ws i (child1 ws i) b → room2 ≡ room →
+        {c3 k3 p3 : List ℕ} {z : Result (ℕ × St) Fault} → Says (bufs c3 k3 p3) z (into_d (value_at ws b) d room2 (st_of (bufs c2 k1 p1) t)) →
+        {c4 : List ℕ} {r : Result (ℕ × St) Fault} → After c3 c4 z r (λ q. patch_d s.count d q.1) → Says (bufs c4 k3 p3) r all
     arms-value {t = t} g {b} {room2} other same {k3 = k3} {p3 = p3} two end =
         let n : length (take s.count c1) ≡ s.count = length-take-le s.count c1 (kept got one).words in
         let p = chain (λ q. patch_d s.count d q.1) two (end k3 p3) in

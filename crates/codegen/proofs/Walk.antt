@@ -1,4 +1,6 @@
 -- What the proof of each rule cites at its calls: the measure falls, and a callee finds what it asks.
+use Rattle.std.specs.Prelude.{Option, Some, None, Result, Ok}
+use Rattle.faults.specs.declared.Fault.{Fault}
 use mathlib.Core.Path.{◌≡◌, refl, sym, ap, subst, ◌∙◌}
 use mathlib.Core.Bool.{Bool, true, false, cond}
 use mathlib.Core.List.{List}
@@ -16,16 +18,8 @@ use Rattle.table.specs.Tree as Tree
 use Rattle.table.proofs.Trees.{View, is_leaf, is-unary, is-binary, is-ternary, view, unary-in}
 use Rattle.table.proofs.Arities.{binary-code, cmp-codes}
 use Rattle.emit.specs.declared.state.St.{St}
-use Rattle.emit.specs.declared.state.Dst.{Dst}
-use Rattle.emit.specs.declared.state.Ans.{Ans}
-use Rattle.emit.specs.declared.state.Ans.TheVariants.{Got}
-use Rattle.emit.specs.declared.jump.Jumps.{Jumps}
-use Rattle.emit.specs.declared.jump.Jumps.TheVariants as J
 use Rattle.fold.specs.declared.Tail.{Tail}
-use Rattle.fold.specs.declared.Fold.TheVariants.{General}
 use Rattle.fold.specs.declared.How.{How}
-use Rattle.fold.specs.declared.Test.{Test}
-use Rattle.fold.specs.declared.Test.TheVariants as T
 use Rattle.emit.specs.State.{Res, State, dest_d}
 use Rattle.fold.specs.Fold.{Picked, one, two}
 use Rattle.emit.specs.Read.{bufs, Fit, Says, Steps, LeafReady}
@@ -189,16 +183,16 @@ module _ {ws c k p : List ℕ} {i : ℕ} {st : St} (ready : Ready ws (bufs c k p
     pub ready-child : Ready ws (bufs c k p) j st
     ready-child = record { base = ready.base; node = (child.of ready.base ready.node).node; low = ready.low; fit = ready.fit }
 
-    pub ready-after : {c' k' p' : List ℕ} {x : Ans} {a : ℕ} {s : St} {m : Res (ℕ × State)} → x ≡ Got a s → Says (bufs c' k' p') x m → Ready ws (bufs c' k' p') j s
+    pub ready-after : {c' k' p' : List ℕ} {x : Result (ℕ × St) Fault} {a : ℕ} {s : St} {m : Res (ℕ × State)} → x ≡ Ok (a, s) → Says (bufs c' k' p') x m → Ready ws (bufs c' k' p') j s
     ready-after e h = record { base = ready.base; node = (child.of ready.base ready.node).node; low = ready.low; fit = kept e h }
 
   pub ready-operand : {j : ℕ} {tail : Tail} → Operand ws i tail j → Ready ws (bufs c k p) j st
   ready-operand o = record { base = ready.base; node = (o.of ready.base ready.node).node; low = ready.low; fit = ready.fit }
 
-  pub ready-dest : {x : Ans} {d : ℕ} {s : St} (dst : Dst) → ((c : List ℕ) → Steps c c st x (dest_d dst)) → x ≡ Got d s → Ready ws (bufs c k p) i s
+  pub ready-dest : {x : Result (ℕ × St) Fault} {d : ℕ} {s : St} (dst : Option ℕ) → ((c : List ℕ) → Steps c c st x (dest_d dst)) → x ≡ Ok (d, s) → Ready ws (bufs c k p) i s
   ready-dest dst h e = record { base = ready.base; node = ready.node; low = ready.low; fit = kept e (h c k p ready.fit) }
 
-  pub ready-jumps : {c' k' p' js : List ℕ} {x : Jumps} {n : ℕ} {s : St} {m : Res (List ℕ × State)} → x ≡ J.Are n s → Lists (bufs c' k' p') js x m → Ready ws (bufs c' k' p') i s
+  pub ready-jumps : {c' k' p' js : List ℕ} {x : Result (ℕ × St) Fault} {n : ℕ} {s : St} {m : Res (List ℕ × State)} → x ≡ Ok (n, s) → Lists (bufs c' k' p') js x m → Ready ws (bufs c' k' p') i s
   ready-jumps e h = record { base = ready.base; node = ready.node; low = ready.low; fit = kept-jumps e h }
 
   pub ready-tested : {j : ℕ} → Tested ws i j → Ready ws (bufs c k p) j st
@@ -211,7 +205,7 @@ module _ {ws c k p : List ℕ} {i : ℕ} {st : St} (ready : Ready ws (bufs c k p
   fit_of = ready.fit
 
   -- an operator that takes in nothing has two operands
-  pub over-unary : 5 < kind_at ws i → op_fold (tree ws i) ≡ General → 7 < kind_at ws i
+  pub over-unary : 5 < kind_at ws i → op_fold (tree ws i) ≡ None → 7 < kind_at ws i
   unfolding op_fold
   over-unary h e =
       elim (dec_lt 7 (kind_at ws i)) [
@@ -219,7 +213,7 @@ module _ {ws c k p : List ℕ} {i : ℕ} {st : St} (ready : Ready ws (bufs c k p
         | yes g ↦ g
       ]
     where
-      folds : (a : Tree) (o : Unary) → op_fold (Tree.unary o a) ≡ General → 7 < kind_at ws i
+      folds : (a : Tree) (o : Unary) → op_fold (Tree.unary o a) ≡ None → 7 < kind_at ws i
       folds a Tree.minus e = absurd (let z : ◌≡◌ {A = ℕ} 0 1 = cc in omega arith)
       folds a Tree.not' e = absurd (let z : ◌≡◌ {A = ℕ} 0 1 = cc in omega arith)
 
@@ -276,12 +270,12 @@ module _ {k v : ℕ} (is : k ≡ v) where
   junction-found e h = ap is_junction (sym is) ∙ sym e ∙ h
 
 -- what a test takes in, as the code found it
-module _ (ws : List ℕ) (i : ℕ) (p : Picked Tree) {r : Test} where
-  pub picked_both : r ≡ T.Two → TestIs ws i r p → p ≡ two
-  picked_both e h = subst (λ (q : Test). TestIs ws i q p) e h
+module _ (ws : List ℕ) (i : ℕ) (p : Picked Tree) {r : Option (ℕ × How)} where
+  pub picked_both : r ≡ None → TestIs ws i r p → p ≡ two
+  picked_both e h = subst (λ (q : Option (ℕ × How)). TestIs ws i q p) e h
 
-  pub picked-one : {j : ℕ} {how : How} → r ≡ T.One j how → TestIs ws i r p → (p ≡ one (tree ws j) how) × (Tested ws i j)
-  picked-one e h = subst (λ (q : Test). TestIs ws i q p) e h
+  pub picked-one : {j : ℕ} {how : How} → r ≡ Some (j, how) → TestIs ws i r p → (p ≡ one (tree ws j) how) × (Tested ws i j)
+  picked-one e h = subst (λ (q : Option (ℕ × How)). TestIs ws i q p) e h
 
 pub ruleset asked = (inside, inner, operator, leaf-ready, ready-child, ready-after, ready-operand, ready-dest, lit≤)
 

@@ -1,16 +1,12 @@
 -- The generator: what each tree gives, as a value and as a branch (01, "Emission rules"). Branches are emitted with displacement 0 and patched once
 -- their target is known. A line `(x, s₁) ← rule` of a `do` block is one step: its answer x and the state s₁ after it; a refusal ends the block.
-use Rattle.std.specs.Prelude.{Bool, true, false, not, cond, List, ℕ, ◌-◌, length}
+use Rattle.insns.specs.declared.op.Imm16.{Imm16}
+use Rattle.std.specs.Prelude.{Bool, true, false, not, cond, List, ℕ, ◌-◌, length, Option, Some, None}
 use Rattle.table.specs.Tree.{Leaf, Unary, minus, not', Cmp, Binary, arith, cmp, and, or, Tree, leaf, unary, binary, ternary}
 use Rattle.insns.specs.declared.op.Three.{Three}
 use Rattle.insns.specs.declared.op.Cmp.{Cmp as JumpCmp}
-use Rattle.emit.specs.declared.state.Dst.{Dst}
-use Rattle.emit.specs.declared.state.Dst.TheVariants.{Any, To}
 use Rattle.fold.specs.declared.Tail.{Tail}
 use Rattle.fold.specs.declared.Tail.TheVariants as Tail
-use Rattle.fold.specs.declared.Fold.{Fold}
-use Rattle.fold.specs.declared.Fold.TheVariants.{Into, General}
-use Rattle.fold.specs.declared.literal.Imm.{Imm}
 use Rattle.fold.specs.declared.How.{How}
 use Rattle.fold.specs.declared.How.TheVariants as How
 use Rattle.fold.specs.Literal.{as_imm16}
@@ -22,7 +18,7 @@ use Rattle.emit.specs.Jump.{patch_d, one_to, pair_to, junction_to, bool_d, turn_
 
 -- A value rule takes where the value is to go, the room in the jump list and the state, and gives the register that holds the value.
 abbrev pub Value : Type 0
-Value = Dst → ℕ → State → Res (ℕ × State)
+Value = (Option ℕ) → ℕ → State → Res (ℕ × State)
 
 -- A branch rule takes the sense that jumps, and gives the positions of the jumps, which are still to be patched.
 abbrev pub Branch : Type 0
@@ -36,14 +32,14 @@ leaf_v l dst room s = leaf_d l dst s
 -- one operand in any register, then an instruction of one register
 unfoldable pub one_v : Tail → Value → Value
 one_v tail a dst room s = do
-  x ← a Any room s
+  x ← a None room s
   tail_to tail dst s.next x
 
 -- both operands in any registers, then the instruction of two registers: the destination is written when both are read
 unfoldable pub two_v : Three → Value → Value → Value
 two_v op a b dst room s = do
-  (x, s₁) ← a Any room s
-  y ← b Any room s₁
+  (x, s₁) ← a None room s
+  y ← b None room s₁
   three_to op x dst s.next y
 
 -- the operand of a fold: a mask that takes in a right shift has the shift's left operand, `first`
@@ -51,14 +47,14 @@ abbrev pub operand : Tail → Value → Value → Value
 operand tail a first = cond (takes_shift tail) first a
 
 -- a binary operator (`gen_bin_op`): a fold, or the general form
-unfoldable pub binary_v : Fold → Three → Value → Value → Value → Value
-binary_v (Into tail) op a first b dst room s = one_v tail (operand tail a first) dst room s
-binary_v General op a first b dst room s = two_v op a b dst room s
+unfoldable pub binary_v : Option Tail → Three → Value → Value → Value → Value
+binary_v (Some tail) op a first b dst room s = one_v tail (operand tail a first) dst room s
+binary_v None op a first b dst room s = two_v op a b dst room s
 
 -- a value in the register d (`gen_into`)
 unfoldable pub into_d : Value → ℕ → ℕ → State → Res (ℕ × State)
 into_d a d room s = do
-  x ← a (To d) room s
+  x ← a (Some d) room s
   move_to d s.next x
 
 -- a condition as a value (`gen_cond_value`): its register, its branch if true, the two loads
@@ -88,7 +84,7 @@ ternary_v test a b dst room s = do
 -- a branch on one value
 unfoldable pub one_b : How → Value → ℕ → State → Res (List ℕ × State)
 one_b how a room s = do
-  x ← a Any room s
+  x ← a None room s
   one_to how room s.next x
 
 -- anything but a comparison, And, Or and Not is evaluated and tested as a Bool
@@ -98,8 +94,8 @@ test_b a sense room s = one_b (How.Bool sense) a room s
 -- a branch that compares two registers
 unfoldable pub pair_b : JumpCmp → Value → Value → ℕ → State → Res (List ℕ × State)
 pair_b c a b room s = do
-  (l, s₁) ← a Any room s
-  r ← b Any room s₁
+  (l, s₁) ← a None room s
+  r ← b None room s₁
   pair_to c l room s.next r
 
 abbrev pub picked_b : Picked Value → (ℕ → State → Res (List ℕ × State)) → ℕ → State → Res (List ℕ × State)
@@ -107,7 +103,7 @@ picked_b (one a how) both = one_b how a
 picked_b two both = both
 
 -- a comparison of a and b; left and right are their 16-bit literals, where they are literals
-unfoldable pub compare_b : Cmp → Imm → Imm → Value → Value → Branch
+unfoldable pub compare_b : Cmp → Option Imm16 → Option Imm16 → Value → Value → Branch
 compare_b c left right a b sense room s =
     picked_b (compare_pick c a b left right sense) (pair_b (branch_of c sense) a b) room s
 

@@ -1,5 +1,6 @@
 -- Plumbing: what the contracts of the rules ask and say at a node of an accepted table. The rules' meaning is in Gen.
-use Rattle.std.specs.Prelude.{◌≡◌, Bool, true, false, List, ℕ, ◌<◌, ◌≤◌, eqb, length}
+use Rattle.faults.specs.declared.Fault.{Fault}
+use Rattle.std.specs.Prelude.{◌≡◌, Bool, true, false, List, ℕ, ◌<◌, ◌≤◌, eqb, length, None, Result}
 use Rattle.std.specs.Borrow.{Bor, MutBor}
 use denote.Triple.Both.{Both}
 use Rattle.faults.specs.Limits.{max_registers}
@@ -7,9 +8,6 @@ use Rattle.table.specs.Table.{kind_at, child1, child2}
 use Rattle.table.specs.Nodes.{Node}
 use Rattle.table.specs.Tree.{tree}
 use Rattle.emit.specs.declared.state.St.{St}
-use Rattle.emit.specs.declared.state.Ans.{Ans}
-use Rattle.emit.specs.declared.jump.Jumps.{Jumps}
-use Rattle.fold.specs.declared.Fold.TheVariants.{General}
 use Rattle.fold.specs.Fold.{two}
 use Rattle.fold.specs.Nodes.{op_fold, pick_of, is_junction}
 use Rattle.emit.specs.State.{Res, State}
@@ -47,13 +45,13 @@ abbrev pub Lent : Type 0
 Lent = Both (MutBor (List ℕ)) (MutBor (List ℕ))
 
 -- a value rule: from the state st, which is read off the buffers at entry, the answer r is what f gives with the room of the jump list
-abbrev pub GivesValue : (nodes : Shown) (code kinds payloads jumps : Lent) (st : St) (r : Ans) (f : ℕ → State → Res (ℕ × State)) → Type 0
+abbrev pub GivesValue : (nodes : Shown) (code kinds payloads jumps : Lent) (st : St) (r : Result (ℕ × St) Fault) (f : ℕ → State → Res (ℕ × State)) → Type 0
 GivesValue nodes code kinds payloads jumps st r f =
     Says (bufs code.exit.now kinds.exit.now payloads.exit.now) r
     (f (length jumps.entry.now) (st_of (bufs code.entry.now kinds.entry.now payloads.entry.now) st))
 
 -- a branch rule: the same, with the jumps at the front of the list
-abbrev pub GivesJumps : (nodes : Shown) (code kinds payloads jumps : Lent) (st : St) (r : Jumps) (f : ℕ → State → Res (List ℕ × State)) → Type 0
+abbrev pub GivesJumps : (nodes : Shown) (code kinds payloads jumps : Lent) (st : St) (r : Result (ℕ × St) Fault) (f : ℕ → State → Res (List ℕ × State)) → Type 0
 GivesJumps nodes code kinds payloads jumps st r f =
     Lists (bufs code.exit.now kinds.exit.now payloads.exit.now) jumps.exit.now r
     (f (length jumps.entry.now) (st_of (bufs code.entry.now kinds.entry.now payloads.entry.now) st))
@@ -65,7 +63,7 @@ IsOperator t i = (5 < kind_at t i) × (kind_at t i ≤ 17)
 
 -- no immediate fits
 abbrev pub IsGeneral : List ℕ → ℕ → Type 0
-IsGeneral t i = (7 < kind_at t i) × (kind_at t i ≤ 17) × (op_fold (tree t i) ≡ General)
+IsGeneral t i = (7 < kind_at t i) × (kind_at t i ≤ 17) × (op_fold (tree t i) ≡ None)
 
 abbrev pub IsCondition : List ℕ → ℕ → Type 0
 IsCondition t i = (17 < kind_at t i) × (kind_at t i ≤ 25)

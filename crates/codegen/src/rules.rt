@@ -7,12 +7,13 @@ ghost use Rattle.codegen.specs.Gen.{into_d};
 ghost use Rattle.codegen.specs.Rules.{value_at, branch_at, arms_at, Ready, GivesValue, GivesJumps};
 ghost use Rattle.codegen.specs.Rules.{IsOperator, IsGeneral, IsCondition, IsTernary, IsNot, IsTest, IsPair, IsJunction};
 
-use emit::jump::{Jumps, gen_bool, join, jump_one, jump_pair, settle, turn};
+use faults::Fault;
+use emit::jump::{gen_bool, join, jump_one, jump_pair, settle, turn};
 use emit::leaf::gen_value;
-use emit::state::{Ans, Dst, St, dest};
+use emit::state::{St, dest};
 use emit::word::{put_mov, put_tail, put_three};
 use fold::opcodes::{cmp_branch, is_junction, three_of};
-use fold::{Fold, Test, fold_of, operand_of, test_of};
+use fold::{fold_of, operand_of, test_of};
 
 // Generates the value of node i, and answers the register that holds it. `dst` is a hint: an expression that has to write somewhere writes there, but one
 // whose value already sits in a register hands that register back untouched. Callers that need the value in a specific register go through `gen_into`.
@@ -25,9 +26,9 @@ pub fn gen_code_inner(
     payloads: &mut [u64],
     jumps: &mut [u64],
     i: usize,
-    dst: Dst,
+    dst: Option<u16>,
     st: St,
-) -> Ans
+) -> Result<(u16, St), Fault>
     requires { Ready nodes.now (bufs code.old kinds.old payloads.old) i st }
     ensures { GivesValue nodes code kinds payloads jumps st result (value_at nodes.now i dst) }
 {
@@ -54,11 +55,11 @@ fn gen_operand(
     jumps: &mut [u64],
     i: usize,
     st: St,
-) -> Ans
+) -> Result<(u16, St), Fault>
     requires { Ready nodes.now (bufs code.old kinds.old payloads.old) i st }
     ensures { GivesValue nodes code kinds payloads jumps st result (value_at nodes.now i Dst.Any) }
 {
-    gen_code_inner(nodes, code, kinds, payloads, jumps, i, Dst::Any, st)
+    gen_code_inner(nodes, code, kinds, payloads, jumps, i, None, st)
 }
 
 // An operator that is no condition, Minus and Not included (`gen_bin_op` in the Rust has the binary ones): its one operand and the instruction that takes in
@@ -71,14 +72,14 @@ fn gen_operator(
     payloads: &mut [u64],
     jumps: &mut [u64],
     i: usize,
-    dst: Dst,
+    dst: Option<u16>,
     st: St,
-) -> Ans
+) -> Result<(u16, St), Fault>
     requires { (Ready nodes.now (bufs code.old kinds.old payloads.old) i st) × (IsOperator nodes.now i) }
     ensures { GivesValue nodes code kinds payloads jumps st result (value_at nodes.now i dst) }
 {
     let f = fold_of(nodes, i);
-    let Fold::Into(tail) = f else {
+    let Some(tail) = f else {
         return gen_two(nodes, code, kinds, payloads, jumps, i, dst, st);
     };
     let j = operand_of(nodes, i, tail);
@@ -95,9 +96,9 @@ fn gen_two(
     payloads: &mut [u64],
     jumps: &mut [u64],
     i: usize,
-    dst: Dst,
+    dst: Option<u16>,
     st: St,
-) -> Ans
+) -> Result<(u16, St), Fault>
     requires { (Ready nodes.now (bufs code.old kinds.old payloads.old) i st) × (IsGeneral nodes.now i) }
     ensures { GivesValue nodes code kinds payloads jumps st result (value_at nodes.now i dst) }
 {
@@ -110,7 +111,7 @@ fn gen_two(
         table::child_2(nodes, i),
         st,
     );
-    let Ans::Got(a, s) = x else {
+    let Ok((a, s)) = x else {
         return x;
     };
     let y = gen_operand(
@@ -135,20 +136,20 @@ fn gen_cond_value(
     payloads: &mut [u64],
     jumps: &mut [u64],
     i: usize,
-    dst: Dst,
+    dst: Option<u16>,
     st: St,
-) -> Ans
+) -> Result<(u16, St), Fault>
     requires { (Ready nodes.now (bufs code.old kinds.old payloads.old) i st) × (IsCondition nodes.now i) }
     ensures { GivesValue nodes code kinds payloads jumps st result (value_at nodes.now i dst) }
 {
     let x = dest(dst, st);
-    let Ans::Got(d, s) = x else {
+    let Ok((d, s)) = x else {
         return x;
     };
     let y = gen_jumps(nodes, code, kinds, payloads, jumps, i, true, s);
     match y {
-        Jumps::Are(n, t) => gen_bool(code, &jumps[..n], d, t),
-        Jumps::No(f) => Ans::No(f),
+        Ok((n, t)) => gen_bool(code, &jumps[..n], d, t),
+        Err(f) => Err(f),
     }
 }
 
@@ -161,14 +162,14 @@ fn gen_ternary(
     payloads: &mut [u64],
     jumps: &mut [u64],
     i: usize,
-    dst: Dst,
+    dst: Option<u16>,
     st: St,
-) -> Ans
+) -> Result<(u16, St), Fault>
     requires { (Ready nodes.now (bufs code.old kinds.old payloads.old) i st) × (IsTernary nodes.now i) }
     ensures { GivesValue nodes code kinds payloads jumps st result (value_at nodes.now i dst) }
 {
     let x = dest(dst, st);
-    let Ans::Got(d, s) = x else {
+    let Ok((d, s)) = x else {
         return x;
     };
     let y = gen_jumps(
@@ -182,8 +183,8 @@ fn gen_ternary(
         s,
     );
     match y {
-        Jumps::Are(n, t) => gen_arms(nodes, code, kinds, payloads, jumps, i, d, n, t),
-        Jumps::No(f) => Ans::No(f),
+        Ok((n, t)) => gen_arms(nodes, code, kinds, payloads, jumps, i, d, n, t),
+        Err(f) => Err(f),
     }
 }
 
@@ -200,7 +201,7 @@ fn gen_arms(
     d: u16,
     n: usize,
     st: St,
-) -> Ans
+) -> Result<(u16, St), Fault>
     requires { (Ready nodes.now (bufs code.old kinds.old payloads.old) i st) × (IsTernary nodes.now i) × (n ≤ length jumps.old) }
     ensures { GivesValue nodes code kinds payloads jumps st result (arms_at nodes.now i d (take n jumps.old)) }
 {
@@ -214,12 +215,12 @@ fn gen_arms(
         d,
         st,
     );
-    let Ans::Got(_, s) = x else {
+    let Ok((_, s)) = x else {
         return x;
     };
     let p = s.count;
     let y = turn(code, &jumps[..n], d, s);
-    let Ans::Got(_, t) = y else {
+    let Ok((_, t)) = y else {
         return y;
     };
     let z = gen_into(
@@ -246,11 +247,11 @@ pub fn gen_into(
     i: usize,
     d: u16,
     st: St,
-) -> Ans
+) -> Result<(u16, St), Fault>
     requires { Ready nodes.now (bufs code.old kinds.old payloads.old) i st }
     ensures { GivesValue nodes code kinds payloads jumps st result (into_d (value_at nodes.now i) d) }
 {
-    let x = gen_code_inner(nodes, code, kinds, payloads, jumps, i, Dst::To(d), st);
+    let x = gen_code_inner(nodes, code, kinds, payloads, jumps, i, Some(d), st);
     put_mov(code, d, st.next, x)
 }
 
@@ -267,7 +268,7 @@ fn gen_branch(
     i: usize,
     sense: bool,
     st: St,
-) -> Jumps
+) -> Result<(usize, St), Fault>
     requires { Ready nodes.now (bufs code.old kinds.old payloads.old) i st }
     ensures { GivesJumps nodes code kinds payloads jumps st result (branch_at nodes.now i sense) }
 {
@@ -302,7 +303,7 @@ fn gen_jumps(
     i: usize,
     sense: bool,
     st: St,
-) -> Jumps
+) -> Result<(usize, St), Fault>
     requires { Ready nodes.now (bufs code.old kinds.old payloads.old) i st }
     ensures { GivesJumps nodes code kinds payloads jumps st result (branch_at nodes.now i sense) }
 {
@@ -320,7 +321,7 @@ fn gen_not(
     i: usize,
     sense: bool,
     st: St,
-) -> Jumps
+) -> Result<(usize, St), Fault>
     requires { (Ready nodes.now (bufs code.old kinds.old payloads.old) i st) × (IsNot nodes.now i) }
     ensures { GivesJumps nodes code kinds payloads jumps st result (branch_at nodes.now i sense) }
 {
@@ -348,12 +349,12 @@ fn gen_test(
     i: usize,
     sense: bool,
     st: St,
-) -> Jumps
+) -> Result<(usize, St), Fault>
     requires { (Ready nodes.now (bufs code.old kinds.old payloads.old) i st) × (IsTest nodes.now i) }
     ensures { GivesJumps nodes code kinds payloads jumps st result (branch_at nodes.now i sense) }
 {
     let t = test_of(nodes, i, sense);
-    let Test::One(j, how) = t else {
+    let Some((j, how)) = t else {
         return gen_pair(nodes, code, kinds, payloads, jumps, i, sense, st);
     };
     let x = gen_operand(nodes, code, kinds, payloads, jumps, j, st);
@@ -371,7 +372,7 @@ fn gen_pair(
     i: usize,
     sense: bool,
     st: St,
-) -> Jumps
+) -> Result<(usize, St), Fault>
     requires { (Ready nodes.now (bufs code.old kinds.old payloads.old) i st) × (IsPair nodes.now i sense) }
     ensures { GivesJumps nodes code kinds payloads jumps st result (branch_at nodes.now i sense) }
 {
@@ -385,7 +386,7 @@ fn gen_pair(
         st,
     );
     match x {
-        Ans::Got(a, s) => {
+        Ok((a, s)) => {
             let y = gen_operand(
                 nodes,
                 code,
@@ -404,7 +405,7 @@ fn gen_pair(
                 y,
             )
         }
-        Ans::No(f) => Jumps::No(f),
+        Err(f) => Err(f),
     }
 }
 
@@ -421,7 +422,7 @@ fn gen_junction(
     by: bool,
     sense: bool,
     st: St,
-) -> Jumps
+) -> Result<(usize, St), Fault>
     requires { (Ready nodes.now (bufs code.old kinds.old payloads.old) i st) × (IsJunction nodes.now i by) }
     ensures { GivesJumps nodes code kinds payloads jumps st result (branch_at nodes.now i sense) }
 {
@@ -435,7 +436,7 @@ fn gen_junction(
         by,
         st,
     );
-    let Jumps::Are(n, s) = x else {
+    let Ok((n, s)) = x else {
         return x;
     };
     let y = gen_jumps(

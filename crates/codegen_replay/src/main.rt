@@ -1,11 +1,11 @@
 // Compiles node tables into lent buffers, and writes what compiling answers and leaves; tools/oracle/README.md has the layout.
 #![tactic(auto)]
 
+use faults::Fault;
 use compile::buffers::Compiled;
 use replay_io::within;
 use std::io;
 use std::io::{Read, Write};
-use table::Dest;
 
 // Room for the largest record.
 const TABLE_WORDS: usize = 16388;
@@ -14,23 +14,23 @@ const WORDS: usize = 2054;
 
 const SLOTS: usize = 65;
 
-fn dest_of(d: u64) -> Dest {
+fn dest_of(d: u64) -> Option<u64> {
     if d == 0 {
-        return Dest::None;
+        return None;
     }
-    Dest::Reg(d - 1)
+    Some(d - 1)
 }
 
-fn write_answer<W: Write>(output: &mut W, c: Compiled) -> io::Result<()> {
+fn write_answer<W: Write>(output: &mut W, c: Result<Compiled, Fault>) -> io::Result<()> {
     match c {
-        Compiled::Done(words, slots, register, frame) => {
+        Ok(Compiled { words, slots, register, frame }) => {
             replay_io::write_word(output, 0)?;
             replay_io::write_word(output, words as u64)?;
             replay_io::write_word(output, slots as u64)?;
             replay_io::write_word(output, register as u64)?;
             replay_io::write_word(output, frame as u64)
         }
-        Compiled::Refused(n) => {
+        Err(n) => {
             replay_io::write_word(output, n as u64)?;
             replay_io::write_word(output, 0)?;
             replay_io::write_word(output, 0)?;

@@ -1,4 +1,6 @@
 -- One outcome only: what compiling answers and leaves is fixed by what was made or refused, however the answer is told.
+use Rattle.std.specs.Prelude.{Result}
+use Rattle.faults.specs.declared.Fault.{Fault}
 use mathlib.Core.Path.{◌≡◌, sym, ap, ◌∙◌}
 use mathlib.Core.List.{List}
 use Prim.Native.Nat.{ℕ}
@@ -14,7 +16,7 @@ pub record Alike {A : Type 0} (q q' : A) (code code' sks sks' sps sps' : List �
   pub slot_payloads : sps ≡ sps'
 
 pub compiles-once :
-    {A : Type 0} {told : Compiled → A} {m m' : Res (ℕ × State)} {q q' : A} {code code' sks sks' sps sps' : List ℕ} {c k p : ℕ} → m ≡ m' →
+    {A : Type 0} {told : Result Compiled Fault → A} {m m' : Res (ℕ × State)} {q q' : A} {code code' sks sks' sps sps' : List ℕ} {c k p : ℕ} → m ≡ m' →
     CompilesAs told q m code sks sps c k p → CompilesAs told q' m' code' sks' sps' c k p → Alike q q' code code' sks sks' sps sps'
 compiles-once {told = told} {c = c} {k = k} {p = p} e h h' =
     record {

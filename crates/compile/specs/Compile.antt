@@ -1,11 +1,7 @@
 -- What compiling a node table makes, or the number of its refusal. What is answered and left in the lent buffers is in Buffers.
-use Rattle.std.specs.Prelude.{List, [], ℕ, zero, suc, ◌+◌, ◌-◌}
-use Rattle.table.specs.declared.Dest.{Dest}
-use Rattle.table.specs.declared.Dest.TheVariants as D
+use Rattle.std.specs.Prelude.{List, [], ℕ, zero, suc, ◌+◌, ◌-◌, Option, Some, None}
 use Rattle.table.specs.Table.{node_count, temp_base_of, check_of}
 use Rattle.table.specs.Tree.{Tree, tree}
-use Rattle.emit.specs.declared.state.Dst.{Dst}
-use Rattle.emit.specs.declared.state.Dst.TheVariants.{Any, To}
 use Rattle.emit.specs.State.{Res, fail, State}
 use Rattle.codegen.specs.Gen.{Value, into_d, gen}
 
@@ -13,17 +9,17 @@ use Rattle.codegen.specs.Gen.{Value, into_d, gen}
 abbrev pub start : ℕ → ℕ → ℕ → State
 start cap slot_cap base = record { words = []; cap = cap; slots = []; slot_cap = slot_cap; next = base; frame = base }
 
-abbrev pub dst_of : Dest → Dst
-dst_of D.None = Any
-dst_of (D.Reg d) = To d
+abbrev pub dst_of : Option ℕ → Option ℕ
+dst_of None = None
+dst_of (Some d) = Some d
 
 -- the whole expression, in its destination if it has one
-unfoldable pub root_d : Value → Dst → ℕ → State → Res (ℕ × State)
-root_d v Any room s = v Any room s
-root_d v (To d) room s = into_d v d room s
+unfoldable pub root_d : Value → Option ℕ → ℕ → State → Res (ℕ × State)
+root_d v None room s = v None room s
+root_d v (Some d) room s = into_d v d room s
 
 -- a table that the check accepts; temporaries start above the parameters and locals (`Regs::new`)
-unfoldable pub generated : Tree → Dest → ℕ → ℕ → ℕ → ℕ → Res (ℕ × State)
+unfoldable pub generated : Tree → Option ℕ → ℕ → ℕ → ℕ → ℕ → Res (ℕ × State)
 generated t dest base room cap slot_cap = root_d (gen t).value (dst_of dest) room (start cap slot_cap (temp_base_of base))
 
 -- the check first, then the first failure in emission order
@@ -32,6 +28,6 @@ accepted zero m = m
 accepted (suc n) m = fail (suc n)
 
 -- compiling with a jump list of a given room, and lent room for words, and for constants in two lists of which the shorter counts
-unfoldable pub compile_of : List ℕ → ℕ → ℕ → Dest → ℕ → ℕ → ℕ → Res (ℕ × State)
+unfoldable pub compile_of : List ℕ → ℕ → ℕ → Option ℕ → ℕ → ℕ → ℕ → Res (ℕ × State)
 compile_of ws params locals dest room cap slot_cap =
     accepted (check_of ws params locals dest) (generated (tree ws (node_count ws - 1)) dest (params + locals) room cap slot_cap)

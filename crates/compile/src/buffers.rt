@@ -6,6 +6,7 @@ ghost use Rattle.emit.specs.Read.{bufs, st_of, Fit};
 ghost use Rattle.compile.specs.Buffers.{Compiles};
 ghost use Rattle.compile.specs.Parts.{zeroed};
 
+use faults::Fault;
 use emit::state::St;
 
 // What compiling answers: how many words and constants, the register that holds the value and the frame's size; or the number of a refusal.
@@ -46,7 +47,7 @@ pub(crate) fn finish(
     payloads: &mut [u64],
     r: u16,
     s: St,
-) -> Compiled
+) -> Result<Compiled, Fault>
     requires { Fit (bufs code.old kinds.old payloads.old) s }
     ensures { Compiles result (done (r, st_of (bufs code.old kinds.old payloads.old) s))
         code.new kinds.new payloads.new
@@ -57,16 +58,16 @@ pub(crate) fn finish(
     zero_from(code, w);
     zero_kinds(kinds, k);
     zero_from(payloads, k);
-    Compiled::Done(w, k, r, s.frame)
+    Ok(Compiled { words: w, slots: k, register: r, frame: s.frame })
 }
 
 // A refusal: its number, and all lent output zero. Public for entries that refuse before they compile.
-pub fn refuse(f: u8, code: &mut [u64], kinds: &mut [u8], payloads: &mut [u64]) -> Compiled
+pub fn refuse(f: u8, code: &mut [u64], kinds: &mut [u8], payloads: &mut [u64]) -> Result<Compiled, Fault>
     ensures { Compiles result (fail f) code.new kinds.new payloads.new
         (length code.old) (length kinds.old) (length payloads.old) }
 {
     zero_from(code, 0);
     zero_kinds(kinds, 0);
     zero_from(payloads, 0);
-    Compiled::Refused(f)
+    Err(f)
 }

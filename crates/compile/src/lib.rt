@@ -14,19 +14,19 @@ ghost use Rattle.compile.specs.Buffers.{Compiles};
 ghost use Rattle.compile.specs.Compile.{dst_of, root_d, start, generated, compile_of};
 ghost use Rattle.compile.specs.Parts.{Root, IsRegister, Leaves};
 
+use faults::Fault;
 use crate::buffers::{Compiled, finish, refuse, zero_from};
 use codegen::rules::{gen_code_inner, gen_into};
-use emit::state::{Ans, Dst, St};
-use table::Dest;
+use emit::state::St;
 
 // The destination as the rules take it.
-fn dst_of(dest: Dest) -> Dst
+fn dst_of(dest: Option<u64>) -> Option<u16>
     requires { IsRegister dest }
     ensures { result ≡ dst_of dest }
 {
     match dest {
-        Dest::None => Dst::Any,
-        Dest::Reg(r) => Dst::To(r as u16),
+        None => None,
+        Some(r) => Some(r as u16),
     }
 }
 
@@ -47,9 +47,9 @@ fn root(
     kinds: &mut [u8],
     payloads: &mut [u64],
     jumps: &mut [u64],
-    dst: Dst,
+    dst: Option<u16>,
     base: u16,
-) -> Ans
+) -> Result<(u16, St), Fault>
     requires { Root nodes.now }
     ensures { Says (bufs code.new kinds.new payloads.new) result
         (root_d (value_at nodes.now (node_count nodes.now - 1)) dst (length jumps.old)
@@ -63,8 +63,8 @@ fn root(
         frame: base,
     };
     match dst {
-        Dst::Any => gen_code_inner(nodes, code, kinds, payloads, jumps, i, Dst::Any, st),
-        Dst::To(d) => gen_into(nodes, code, kinds, payloads, jumps, i, d, st),
+        None => gen_code_inner(nodes, code, kinds, payloads, jumps, i, None, st),
+        Some(d) => gen_into(nodes, code, kinds, payloads, jumps, i, d, st),
     }
 }
 
@@ -73,13 +73,13 @@ fn generate(
     nodes: &[u64],
     params: u64,
     locals: u64,
-    dest: Dest,
+    dest: Option<u64>,
     code: &mut [u64],
     kinds: &mut [u8],
     payloads: &mut [u64],
     jumps: &mut [u64],
-) -> Compiled
-    requires { check_of nodes.now params locals dest ≡ 0 }
+) -> Result<Compiled, Fault>
+    requires { check_of nodes.now params locals dest ≡ Ok tt }
     ensures { Compiles result
         (generated (tree nodes.now (node_count nodes.now - 1)) dest (params + locals) (length jumps.old)
         (length code.old) (min (length kinds.old) (length payloads.old)))
@@ -96,8 +96,8 @@ fn generate(
         temp_base(params, locals),
     );
     match x {
-        Ans::Got(r, s) => finish(code, kinds, payloads, r, s),
-        Ans::No(f) => refuse(f, code, kinds, payloads),
+        Ok((r, s)) => finish(code, kinds, payloads, r, s),
+        Err(f) => refuse(f, code, kinds, payloads),
     }
 }
 
@@ -113,12 +113,12 @@ fn with_few(
     nodes: &[u64],
     params: u64,
     locals: u64,
-    dest: Dest,
+    dest: Option<u64>,
     code: &mut [u64],
     kinds: &mut [u8],
     payloads: &mut [u64],
-) -> Compiled
-    requires dest_value { check_of nodes.now params locals dest ≡ 0 }
+) -> Result<Compiled, Fault>
+    requires dest_value { check_of nodes.now params locals dest ≡ Ok tt }
     requires nodes_bound { node_count nodes.now ≤ 64 }
     ensures { Leaves result nodes.now params locals dest code.new kinds.new payloads.new
         (length code.old) (length kinds.old) (length payloads.old) }
@@ -133,12 +133,12 @@ fn with_some(
     nodes: &[u64],
     params: u64,
     locals: u64,
-    dest: Dest,
+    dest: Option<u64>,
     code: &mut [u64],
     kinds: &mut [u8],
     payloads: &mut [u64],
-) -> Compiled
-    requires dest_value { check_of nodes.now params locals dest ≡ 0 }
+) -> Result<Compiled, Fault>
+    requires dest_value { check_of nodes.now params locals dest ≡ Ok tt }
     requires nodes_bound { node_count nodes.now ≤ 512 }
     ensures { Leaves result nodes.now params locals dest code.new kinds.new payloads.new
         (length code.old) (length kinds.old) (length payloads.old) }
@@ -153,12 +153,12 @@ fn with_many(
     nodes: &[u64],
     params: u64,
     locals: u64,
-    dest: Dest,
+    dest: Option<u64>,
     code: &mut [u64],
     kinds: &mut [u8],
     payloads: &mut [u64],
-) -> Compiled
-    requires dest_value { check_of nodes.now params locals dest ≡ 0 }
+) -> Result<Compiled, Fault>
+    requires dest_value { check_of nodes.now params locals dest ≡ Ok tt }
     requires nodes_bound { node_count nodes.now ≤ 4096 }
     ensures { Leaves result nodes.now params locals dest code.new kinds.new payloads.new
         (length code.old) (length kinds.old) (length payloads.old) }
@@ -173,12 +173,12 @@ fn with_all(
     nodes: &[u64],
     params: u64,
     locals: u64,
-    dest: Dest,
+    dest: Option<u64>,
     code: &mut [u64],
     kinds: &mut [u8],
     payloads: &mut [u64],
-) -> Compiled
-    requires { check_of nodes.now params locals dest ≡ 0 }
+) -> Result<Compiled, Fault>
+    requires { check_of nodes.now params locals dest ≡ Ok tt }
     ensures { Leaves result nodes.now params locals dest code.new kinds.new payloads.new
         (length code.old) (length kinds.old) (length payloads.old) }
 {
@@ -195,12 +195,12 @@ fn listed(
     nodes: &[u64],
     params: u64,
     locals: u64,
-    dest: Dest,
+    dest: Option<u64>,
     code: &mut [u64],
     kinds: &mut [u8],
     payloads: &mut [u64],
-) -> Compiled
-    requires dest_value { check_of nodes.now params locals dest ≡ 0 }
+) -> Result<Compiled, Fault>
+    requires dest_value { check_of nodes.now params locals dest ≡ Ok tt }
     requires most_nonzero { 0 < most }
     ensures { Leaves result nodes.now params locals dest code.new kinds.new payloads.new
         (length code.old) (length kinds.old) (length payloads.old) }
@@ -225,11 +225,11 @@ pub fn compile(
     nodes: &[u64],
     params: u64,
     locals: u64,
-    dest: Dest,
+    dest: Option<u64>,
     code: &mut [u64],
     kinds: &mut [u8],
     payloads: &mut [u64],
-) -> Compiled
+) -> Result<Compiled, Fault>
     ensures { Compiles result
         (compile_of nodes.now params locals dest max_nodes
         (length code.old) (min (length kinds.old) (length payloads.old)))
@@ -248,12 +248,12 @@ pub fn compile_with(
     nodes: &[u64],
     params: u64,
     locals: u64,
-    dest: Dest,
+    dest: Option<u64>,
     code: &mut [u64],
     kinds: &mut [u8],
     payloads: &mut [u64],
     jumps: &mut [u64],
-) -> Compiled
+) -> Result<Compiled, Fault>
     ensures compiles { Compiles result
         (compile_of nodes.now params locals dest (length jumps.old)
         (length code.old) (min (length kinds.old) (length payloads.old)))

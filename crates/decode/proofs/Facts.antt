@@ -1,4 +1,5 @@
 -- Facts for the crates above: the operands of what decodes, and the word of what fits.
+use Rattle.std.specs.Prelude.{Some, None}
 use mathlib.Core.Path.{◌≡◌, refl, sym, ap, subst, ◌∙◌}
 use mathlib.Core.Bool.{Bool, true, false, cond}
 use mathlib.Core.List.{List, [], ◌∷◌}
@@ -13,21 +14,19 @@ use Rattle.insns.specs.Bits.{twos, is_raw}
 use Rattle.insns.specs.Insns.{form_of, fields_of, made_of}
 use Rattle.insns.specs.Opcodes.{op_of}
 use Rattle.insns.specs.declared.Insn.{Insn}
-use Rattle.insns.specs.declared.Made.{Made}
 use Rattle.insns.specs.declared.op.Disp.{Disp}
 use Rattle.insns.specs.declared.op.Imm40.{Imm40}
 use Rattle.insns.specs.declared.op.Op.{Op}
 use Rattle.decode.specs.Decode.{decode_of}
-use Rattle.decode.specs.declared.Decoded.{Decoded}
 use Rattle.decode.proofs.RoundTrip.{head-fits, raw-fits, made-fits, made-decode}
 
 -- an instruction whose operands fit has a word
-pub made-fit : (i : Op) → all_fit (fields_of i) ≡ true → made_of i ≡ Made.Fits (record { bits = op_of (form_of i) + 256 * pack (fields_of i) })
+pub made-fit : (i : Op) → all_fit (fields_of i) ≡ true → made_of i ≡ Some (record { bits = op_of (form_of i) + 256 * pack (fields_of i) })
 unfolding word_if
-made-fit i e = ap (λ (b : Bool). cond b (Made.Fits (record { bits = op_of (form_of i) + 256 * pack (fields_of i) })) Made.Refused) e
+made-fit i e = ap (λ (b : Bool). cond b (Some (record { bits = op_of (form_of i) + 256 * pack (fields_of i) })) None) e
 
 -- the operands of what decodes fit
-pub decoded-fits : (w : ℕ) (i : Op) → decode_of w ≡ Decoded.Is i → all_fit (fields_of i) ≡ true
+pub decoded-fits : (w : ℕ) (i : Op) → decode_of w ≡ Some i → all_fit (fields_of i) ≡ true
 decoded-fits w i e = (made-fits (op_of (form_of i)) (fields_of i) (record { bits = w }) (made-decode w i e)).0
 
 -- an immediate of 40 bits that is a value's
@@ -54,10 +53,10 @@ raw_of z l =
     let k : twos (2 ^ 39) z < 2 * 2 ^ 39 = subst (λ (n : ℕ). n < 2 ^ 40) h.0 l in
     record { small = twos-fits (2 ^ 39) z k; value = ap is_raw (sym h.0) ∙ h.1 }
 
-pub load-raw : (w dst : ℕ) (imm : Imm40) → decode_of w ≡ Decoded.Is (Op.LoadImm40 dst imm) → Raw imm.raw
+pub load-raw : (w dst : ℕ) (imm : Imm40) → decode_of w ≡ Some (Op.LoadImm40 dst imm) → Raw imm.raw
 load-raw w dst imm e =
     let h = head-fits (2 ^ 16) dst (raw imm.raw ∷ []) (decoded-fits w (Op.LoadImm40 dst imm) e) in
     raw_of imm.raw (head-fits (2 ^ 40) (raw_bits imm.raw) [] h.1).0
 
-pub ret-raw : (w : ℕ) (imm : Imm40) → decode_of w ≡ Decoded.Is (Op.RetImm40 imm) → Raw imm.raw
+pub ret-raw : (w : ℕ) (imm : Imm40) → decode_of w ≡ Some (Op.RetImm40 imm) → Raw imm.raw
 ret-raw w imm e = raw_of imm.raw (head-fits (2 ^ 40) (raw_bits imm.raw) [] (decoded-fits w (Op.RetImm40 imm) e)).0

@@ -1,10 +1,8 @@
 // The number above the opcode, cut upward into the fields of each form. Nothing may be left above them: unused high bits are 0, else 10.
-ghost use Rattle.std.specs.Prelude.{◌≡◌, ◌*◌, ◌<◌, ◌≤◌, ◌^◌};
+ghost use Rattle.std.specs.Prelude.{◌≡◌, ◌*◌, ◌<◌, ◌≤◌, ◌^◌, Some};
 ghost use Rattle.decode.specs.Decode.{signed, whole, if_raw, decode_as};
-ghost use Rattle.decode.specs.declared.Decoded.{Decoded};
 ghost use Rattle.insns.specs.declared.op.Form.{Form};
 
-use crate::Decoded;
 use insns::bits::is_raw;
 use insns::fields::{SIZE_6, SIZE_8, SIZE_12, SIZE_16, SIZE_24, SIZE_32};
 use insns::op::{ById, Call, One, Op, Shift, Slot, Three, Two, Wide};
@@ -21,26 +19,26 @@ pub fn signed_of(n: u64, half: u64) -> i64
 }
 
 // i, where nothing is left above its fields.
-pub fn if_whole(rest: u64, i: Op) -> Decoded
-    ensures { result ≡ whole rest (Decoded.Is i) }
+pub fn if_whole(rest: u64, i: Op) -> Option<Op>
+    ensures { result ≡ whole rest (Some i) }
 {
     if rest == 0 {
-        return Decoded::Is(i);
+        return Some(i);
     }
-    Decoded::Bad
+    None
 }
 
 // d, where n is the raw bits of a value.
-pub fn if_raw(n: u64, d: Decoded) -> Decoded
+pub fn if_raw(n: u64, d: Option<Op>) -> Option<Op>
     ensures { result ≡ if_raw n d }
 {
     if is_raw(n) {
         return d;
     }
-    Decoded::Bad
+    None
 }
 
-pub fn two_of(k: Two, x: u64) -> Decoded
+pub fn two_of(k: Two, x: u64) -> Option<Op>
     ensures { result ≡ decode_as (Form.Two k) x }
 {
     let x1 = x / SIZE_16;
@@ -50,7 +48,7 @@ pub fn two_of(k: Two, x: u64) -> Decoded
     )
 }
 
-pub fn slot_of(k: Slot, x: u64) -> Decoded
+pub fn slot_of(k: Slot, x: u64) -> Option<Op>
     ensures { result ≡ decode_as (Form.Slot k) x }
 {
     let x1 = x / SIZE_16;
@@ -60,7 +58,7 @@ pub fn slot_of(k: Slot, x: u64) -> Decoded
     )
 }
 
-pub fn three_of(k: Three, x: u64) -> Decoded
+pub fn three_of(k: Three, x: u64) -> Option<Op>
     ensures { result ≡ decode_as (Form.Three k) x }
 {
     let x1 = x / SIZE_16;
@@ -76,7 +74,7 @@ pub fn three_of(k: Three, x: u64) -> Decoded
     )
 }
 
-pub fn shift_of(k: Shift, x: u64) -> Decoded
+pub fn shift_of(k: Shift, x: u64) -> Option<Op>
     ensures { result ≡ decode_as (Form.Shift k) x }
 {
     let x1 = x / SIZE_16;
@@ -92,7 +90,7 @@ pub fn shift_of(k: Shift, x: u64) -> Decoded
     )
 }
 
-pub fn bit_and_mask_of(x: u64) -> Decoded
+pub fn bit_and_mask_of(x: u64) -> Option<Op>
     ensures { result ≡ decode_as Form.BitAndMask x }
 {
     let x1 = x / SIZE_16;
@@ -109,7 +107,7 @@ pub fn bit_and_mask_of(x: u64) -> Decoded
     )
 }
 
-pub fn rshift_mask_of(x: u64) -> Decoded
+pub fn rshift_mask_of(x: u64) -> Option<Op>
     ensures { result ≡ decode_as Form.RshiftMask x }
 {
     let x1 = x / SIZE_16;
@@ -128,7 +126,7 @@ pub fn rshift_mask_of(x: u64) -> Decoded
     )
 }
 
-pub fn clos_new_of(x: u64) -> Decoded
+pub fn clos_new_of(x: u64) -> Option<Op>
     ensures { result ≡ decode_as Form.ClosNew x }
 {
     let x1 = x / SIZE_16;
@@ -143,7 +141,7 @@ pub fn clos_new_of(x: u64) -> Decoded
     )
 }
 
-pub fn clos_set_of(x: u64) -> Decoded
+pub fn clos_set_of(x: u64) -> Option<Op>
     ensures { result ≡ decode_as Form.ClosSet x }
 {
     let x1 = x / SIZE_16;
@@ -158,7 +156,7 @@ pub fn clos_set_of(x: u64) -> Decoded
     )
 }
 
-pub fn clos_get_of(x: u64) -> Decoded
+pub fn clos_get_of(x: u64) -> Option<Op>
     ensures { result ≡ decode_as Form.ClosGet x }
 {
     let x1 = x / SIZE_16;
@@ -168,13 +166,13 @@ pub fn clos_get_of(x: u64) -> Decoded
     )
 }
 
-pub fn one_of(k: One, x: u64) -> Decoded
+pub fn one_of(k: One, x: u64) -> Option<Op>
     ensures { result ≡ decode_as (Form.One k) x }
 {
     if_whole(x / SIZE_16, Op::One(k, (x % SIZE_16) as u16))
 }
 
-pub fn wide_of(k: Wide, x: u64) -> Decoded
+pub fn wide_of(k: Wide, x: u64) -> Option<Op>
     ensures { result ≡ decode_as (Form.Wide k) x }
 {
     let x1 = x / SIZE_16;
@@ -190,7 +188,7 @@ pub fn wide_of(k: Wide, x: u64) -> Decoded
     )
 }
 
-pub fn call_of(k: Call, x: u64) -> Decoded
+pub fn call_of(k: Call, x: u64) -> Option<Op>
     ensures { result ≡ decode_as (Form.Call k) x }
 {
     let x1 = x / SIZE_16;
@@ -206,7 +204,7 @@ pub fn call_of(k: Call, x: u64) -> Decoded
     )
 }
 
-pub fn call_host_of(x: u64) -> Decoded
+pub fn call_host_of(x: u64) -> Option<Op>
     ensures { result ≡ decode_as Form.CallHost x }
 {
     let x1 = x / SIZE_16;
@@ -221,7 +219,7 @@ pub fn call_host_of(x: u64) -> Decoded
     )
 }
 
-pub fn by_id_of(k: ById, x: u64) -> Decoded
+pub fn by_id_of(k: ById, x: u64) -> Option<Op>
     ensures { result ≡ decode_as (Form.ById k) x }
 {
     let x1 = x / SIZE_24;
@@ -237,7 +235,7 @@ pub fn by_id_of(k: ById, x: u64) -> Decoded
     )
 }
 
-pub fn call_method_host_of(x: u64) -> Decoded
+pub fn call_method_host_of(x: u64) -> Option<Op>
     ensures { result ≡ decode_as Form.CallMethodHost x }
 {
     let x1 = x / SIZE_16;

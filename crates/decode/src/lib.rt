@@ -8,6 +8,7 @@ pub mod patch;
 ghost use Rattle.std.specs.Prelude.{◌≡◌};
 ghost use Rattle.decode.specs.Decode.{decode_of, decoded_number};
 
+use faults::Fault;
 use crate::cut::{
     bit_and_mask_of, by_id_of, call_host_of, call_method_host_of, call_of, clos_get_of,
     clos_new_of, clos_set_of, if_raw, if_whole, one_of, rshift_mask_of, shift_of, signed_of,
@@ -19,25 +20,18 @@ use insns::fields::{
 };
 use insns::op::{Disp, Form, Imm16, Imm40, Op};
 
-// What a word decodes to; Bad is number 10.
-#[derive(Clone, Copy)]
-pub enum Decoded {
-    Is(Op),
-    Bad,
-}
-
 // The number of an answer.
-pub fn number_of(decoded: Decoded) -> u8
+pub fn number_of(decoded: Option<Op>) -> u8
     ensures { result ≡ decoded_number decoded }
 {
     match decoded {
-        Decoded::Is(_) => faults::NONE,
-        Decoded::Bad => faults::UNDECODED,
+        Some(_) => faults::NONE,
+        None => Fault::Undecoded,
     }
 }
 
 // What the word w is, or Bad (10). The forms with a signed operand are cut here, the others in `cut`.
-pub fn decode(w: u64) -> Decoded
+pub fn decode(w: u64) -> Option<Op>
     ensures { result ≡ decode_of w }
 {
     let x = w / SIZE_OPCODE;
@@ -119,6 +113,6 @@ pub fn decode(w: u64) -> Decoded
             };
             if_raw(n, if_whole(x / SIZE_40, Op::RetImm40(imm)))
         }
-        Form::Unknown => Decoded::Bad,
+        Form::Unknown => None,
     }
 }

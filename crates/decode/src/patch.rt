@@ -4,7 +4,8 @@ ghost use Rattle.decode.specs.Decode.{decode_of};
 ghost use Rattle.decode.specs.Patch.{aim_word, patch_of, patched_number, is_done, patch_all};
 ghost use Rattle.decode.specs.Aim.{reach_of, aimed_by, unaimed, Place, aim_field};
 
-use crate::{Decoded, decode};
+use faults::Fault;
+use crate::decode;
 use insns::Insn;
 use insns::bits::{magnitude, signed_bits};
 use insns::fields::{HALF_24, HALF_32, SIZE_16, SIZE_32, SIZE_OPCODE};
@@ -20,13 +21,6 @@ const AFTER_TWO: u64 = SIZE_OPCODE * SIZE_16 * SIZE_16;
 // A target from here on is too far from every position in a slice; below it the difference is an i64.
 const FAR_TARGET: u64 = 1 << 62;
 
-// A displacement, if 32 bits hold it.
-#[derive(Clone, Copy)]
-enum Reach {
-    By(Disp),
-    Far,
-}
-
 // A branch without its displacement, as the proofs speak of it: the code changes a branch word as a number.
 #[derive(Clone, Copy)]
 pub enum Branch {
@@ -36,70 +30,51 @@ pub enum Branch {
     Jmp,
 }
 
-// A branch word with its new displacement, or why there is none.
-#[derive(Clone, Copy)]
-pub enum Aimed {
-    To(u64),
-    Undecoded,
-    NotBranch,
-    TooFar,
-}
-
-// What a patch answers: 0, 12, 10, 11, 8.
-#[derive(Clone, Copy)]
-pub enum Patched {
-    Done,
-    NoWord,
-    Undecoded,
-    NotBranch,
-    TooFar,
-}
-
 // The number of an answer.
-pub fn number_of(answer: Patched) -> u8
+pub fn number_of(answer: Result<(), Fault>) -> u8
     ensures { result ≡ patched_number answer }
 {
     match answer {
-        Patched::Done => faults::NONE,
-        Patched::NoWord => faults::NO_WORD,
-        Patched::Undecoded => faults::UNDECODED,
-        Patched::NotBranch => faults::NOT_BRANCH,
-        Patched::TooFar => faults::TOO_FAR,
+        Ok(()) => faults::NONE,
+        Err(Fault::NoWord) => Fault::NoWord,
+        Err(Fault::Undecoded) => Fault::Undecoded,
+        Err(Fault::NotBranch) => Fault::NotBranch,
+        Err(Fault::TooFar) => Fault::TooFar,
     }
 }
 
 // target - at - 1, if 32 bits hold it.
-fn displacement(at: u64, target: u64) -> Reach
+fn displacement(at: u64, target: u64) -> Option<Disp>
     requires { at < 2 ^ 61 }
     ensures { result ≡ reach_of at target }
 {
     if FAR_TARGET <= target {
-        return Reach::Far;
+        return None;
     }
     let d = (target as i64) - ((at + 1) as i64);
     if magnitude(d) < HALF_32 {
-        return Reach::By(Disp { by: d as i32 });
+        return Some(Disp { by: d as i32 });
     }
-    Reach::Far
+    None
 }
 
 // The word of a branch whose bits below the displacement's field are `low`. A displacement that the field does not hold is too far too.
-fn aim_field(low: u64, place: u64, half: u64, r: Reach) -> Aimed
+fn aim_field(low: u64, place: u64, half: u64, r: Option<Disp>) -> Result<u64, Fault>
     requires { Place low place half }
     ensures { result ≡ aim_field low place half r }
 {
-    let Reach::By(disp) = r else {
-        return Aimed::TooFar;
+    let Some(disp) = r else {
+        return Err(Fault::TooFar);
     };
     let n = signed_bits(disp.by as i64, half);
     if n < 2 * half {
-        return Aimed::To(low + place * n);
+        return Ok(low + place * n);
     }
-    Aimed::TooFar
+    Err(Fault::TooFar)
 }
 
 // A word of a branch's opcode: it decodes where nothing stands above its fields.
-fn aim_branch(w: u64, r: Reach) -> Aimed
+fn aim_branch(w: u64, r: Option<Disp>) -> Result<u64, Fault>
     requires { (43 ≤ w % 256) × (w % 256 ≤ 65) }
     ensures { result ≡ aimed_by (decode_of w) r }
 {
@@ -108,7 +83,7 @@ fn aim_branch(w: u64, r: Reach) -> Aimed
         if w / AFTER_ONE < SIZE_32 {
             return aim_field(w % AFTER_ONE, AFTER_ONE, HALF_32, r);
         }
-        return Aimed::Undecoded;
+        return Err(Fault::Undecoded);
     }
     if op <= Insn::JNGE_IMM16 {
         return aim_field(w % AFTER_TWO, AFTER_TWO, HALF_24, r);
@@ -116,21 +91,21 @@ fn aim_branch(w: u64, r: Reach) -> Aimed
     if w / AFTER_OPCODE < SIZE_32 {
         return aim_field(w % AFTER_OPCODE, AFTER_OPCODE, HALF_32, r);
     }
-    Aimed::Undecoded
+    Err(Fault::Undecoded)
 }
 
 // A word of any other opcode: 10 or 11.
-fn no_branch(w: u64) -> Aimed
+fn no_branch(w: u64) -> Result<u64, Fault>
     ensures { result ≡ unaimed (decode_of w) }
 {
     match decode(w) {
-        Decoded::Is(_) => Aimed::NotBranch,
-        Decoded::Bad => Aimed::Undecoded,
+        Some(_) => Err(Fault::NotBranch),
+        None => Err(Fault::Undecoded),
     }
 }
 
 // A word is aimed as the number that it is. The opcodes of the branches stand together, from if_true to jmp.
-fn aim_word(w: u64, at: u64, target: u64) -> Aimed
+fn aim_word(w: u64, at: u64, target: u64) -> Result<u64, Fault>
     requires { at < 2 ^ 61 }
     ensures { result ≡ aim_word w at target }
 {
@@ -145,38 +120,38 @@ fn aim_word(w: u64, at: u64, target: u64) -> Aimed
 }
 
 // Aims the branch at a position at a target. One word is changed, or none.
-pub fn patch(words: &mut [u64], at: usize, target: u64) -> Patched
+pub fn patch(words: &mut [u64], at: usize, target: u64) -> Result<(), Fault>
     ensures { (result ≡ (patch_of words.old at target).answer) × (words.new ≡ (patch_of words.old at target).words) }
 {
     if words.len() <= at {
-        return Patched::NoWord;
+        return Err(Fault::NoWord);
     }
     match aim_word(words[at], at as u64, target) {
-        Aimed::To(w) => {
+        Ok(w) => {
             words[at] = w;
-            Patched::Done
+            Ok(())
         }
-        Aimed::Undecoded => Patched::Undecoded,
-        Aimed::NotBranch => Patched::NotBranch,
-        Aimed::TooFar => Patched::TooFar,
+        Err(Fault::Undecoded) => Err(Fault::Undecoded),
+        Err(Fault::NotBranch) => Err(Fault::NotBranch),
+        Err(Fault::TooFar) => Err(Fault::TooFar),
     }
 }
 
-fn is_done(answer: Patched) -> bool
+fn is_done(answer: Result<(), Fault>) -> bool
     ensures { result ≡ is_done answer }
 {
     match answer {
-        Patched::Done => true,
-        Patched::NoWord => false,
-        Patched::Undecoded => false,
-        Patched::NotBranch => false,
-        Patched::TooFar => false,
+        Ok(()) => true,
+        Err(Fault::NoWord) => false,
+        Err(Fault::Undecoded) => false,
+        Err(Fault::NotBranch) => false,
+        Err(Fault::TooFar) => false,
     }
 }
 
 // Aims the branches at a list of positions, from the first to the last, at one target. One that fails stops it: those before it stay patched, it
 // and those after it are as they were.
-pub fn patch_jumps(words: &mut [u64], jumps: &[u64], target: u64) -> Patched
+pub fn patch_jumps(words: &mut [u64], jumps: &[u64], target: u64) -> Result<(), Fault>
     ensures { (result ≡ (patch_all words.old jumps.now target).answer)
         × (words.new ≡ (patch_all words.old jumps.now target).words) }
 {
@@ -188,5 +163,5 @@ pub fn patch_jumps(words: &mut [u64], jumps: &[u64], target: u64) -> Patched
         }
         i = i + 1;
     }
-    Patched::Done
+    Ok(())
 }

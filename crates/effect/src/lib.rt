@@ -10,16 +10,16 @@ ghost use Rattle.effect.specs.Effect.{held};
 ghost use Rattle.effect.specs.Forms as Forms;
 ghost use Rattle.effect.specs.Forms.{asked, OfRegisters, OfSlots, OfAny};
 
+use faults::Fault;
 use insns::op::{Arith, Bare, Cmp, Disp, Imm16, Imm40, Op, Sense, Shift, Slot, Three, Two};
 use ops::binary;
-use value::answer::Answer;
-use value::{Lent, Value, from_pair};
+use value::{Value, from_pair};
 
 // An answer for a register, a displacement with an answer to branch by, the next word, or a stop with its number.
 #[derive(Clone, Copy)]
 pub enum Effect {
-    Write(u16, Answer),
-    Branch(Disp, Answer),
+    Write(u16, Result<Value, Fault>),
+    Branch(Disp, Result<Value, Fault>),
     Next,
     Halt(u8),
 }
@@ -34,89 +34,89 @@ pub fn room(kinds: &[u8], payloads: &[u64]) -> usize
     payloads.len()
 }
 
-fn of_lent(l: Lent) -> Answer
+fn of_lent(l: Option<Value>) -> Result<Value, Fault>
     ensures { result_of result ≡ Forms.of_lent l }
 {
     match l {
-        Lent::Well(v) => Answer::Is(v),
-        Lent::Ill => Answer::Fault(faults::ILL_FORMED),
+        Some(v) => Ok(v),
+        None => Err(Fault::IllFormed),
     }
 }
 
 // A register or a slot.
-fn read(kinds: &[u8], payloads: &[u64], r: usize) -> Answer
+fn read(kinds: &[u8], payloads: &[u64], r: usize) -> Result<Value, Fault>
     ensures { result_of result ≡ held kinds.now payloads.now r }
 {
     if room(kinds, payloads) <= r {
-        return Answer::Fault(faults::OUT_OF_RANGE);
+        return Err(Fault::OutOfRange);
     }
     of_lent(from_pair(kinds[r], payloads[r]))
 }
 
 // The operator of a node kind on what was read. Left before right: the first fault counts.
-fn both(kind: u64, x: Answer, y: Answer) -> Answer
+fn both(kind: u64, x: Result<Value, Fault>, y: Result<Value, Fault>) -> Result<Value, Fault>
     ensures { result_of result ≡ Fx.both kind (result_of x) (result_of y) }
 {
-    let Answer::Is(a) = x else {
+    let Ok(a) = x else {
         return x;
     };
-    let Answer::Is(b) = y else {
+    let Ok(b) = y else {
         return y;
     };
     binary(kind, a, b)
 }
 
-fn literal(z: i64) -> Answer
+fn literal(z: i64) -> Result<Value, Fault>
     ensures { result_of result ≡ Fx.literal z }
 {
-    Answer::Is(Value::Int(z))
+    Ok(Value::Int(z))
 }
 
 // A shift amount: it is a count of bits, so never negative.
-fn count(n: u8) -> Answer
+fn count(n: u8) -> Result<Value, Fault>
     ensures { result_of result ≡ Fx.literal (pos n) }
 {
     literal(n as i64)
 }
 
-fn literal16(z: Imm16) -> Answer
+fn literal16(z: Imm16) -> Result<Value, Fault>
     ensures { result_of result ≡ Fx.literal z.n }
 {
     let n = z.n;
     literal(n as i64)
 }
 
-fn mask(lo: u8, len: u8) -> Answer
+fn mask(lo: u8, len: u8) -> Result<Value, Fault>
     ensures { result_of result ≡ Fx.mask lo len }
 {
     literal(int64::sign::signed(int64::mask::mask(lo as u64, len as u64)))
 }
 
 // Only raw bits of a value decode, so what is not Nil, False or True is an Int, shifted up by its tag of two bits.
-fn raw(z: Imm40) -> Answer
+fn raw(z: Imm40) -> Result<Value, Fault>
     ensures { result_of result ≡ Fx.raw_of z.raw }
 {
     let n = z.raw;
     let b = int64::sign::pattern(n);
     if b == 1 {
-        return Answer::Is(Value::Nil);
+        return Ok(Value::Nil);
     }
     if b == 5 {
-        return Answer::Is(Value::Bool(false));
+        return Ok(Value::Bool(false));
     }
     if b == 9 {
-        return Answer::Is(Value::Bool(true));
+        return Ok(Value::Bool(true));
     }
     literal(n >> 2)
 }
 
-fn inverted(r: Answer) -> Answer
+fn inverted(r: Result<Value, Fault>) -> Result<Value, Fault>
     ensures { result_of result ≡ Fx.inverted (result_of r) }
 {
     ops::not::negated(r)
 }
 
-fn if_test(k: Sense, r: Answer) -> Answer
+fn if_test(k: Sense, r: Result<Value, Fault>) -> Result<Value, Fault>
     ensures { result_of result ≡ Forms.if_test k (result_of r) }
 {
     match k {
@@ -165,7 +165,7 @@ fn shift_kind(k: Shift) -> u64
 }
 
 // `jnlt` jumps where `jlt` does not. It is not `jge`: of a NaN neither holds.
-fn jump_test(k: Cmp, x: Answer, y: Answer) -> Answer
+fn jump_test(k: Cmp, x: Result<Value, Fault>, y: Result<Value, Fault>) -> Result<Value, Fault>
     ensures { result_of result ≡ Forms.jump_test k (result_of x) (result_of y) }
 {
     match k {
@@ -186,8 +186,8 @@ fn bare(k: Bare) -> Effect
     ensures { OfAny (Op.Bare k) (asked result) }
 {
     match k {
-        Bare::Panic => Effect::Halt(faults::PANIC_WORD),
-        Bare::Breakpoint => Effect::Halt(faults::NOT_RUN),
+        Bare::Panic => Effect::Halt(Fault::PanicWord),
+        Bare::Breakpoint => Effect::Halt(Fault::NotRun),
         Bare::Nop => Effect::Next,
     }
 }
@@ -204,11 +204,11 @@ fn two(k: Two, d: u16, a: u16, kinds: &[u8], payloads: &[u64]) -> Effect
     match k {
         Two::Mov => Effect::Write(d, read(kinds, payloads, a as usize)),
         Two::Not => Effect::Write(d, inverted(read(kinds, payloads, a as usize))),
-        Two::BitNot => Effect::Halt(faults::NOT_RUN),
-        Two::CellSet => Effect::Halt(faults::NOT_RUN),
-        Two::CellGet => Effect::Halt(faults::NOT_RUN),
-        Two::ArrPush => Effect::Halt(faults::NOT_RUN),
-        Two::BaClone => Effect::Halt(faults::NOT_RUN),
+        Two::BitNot => Effect::Halt(Fault::NotRun),
+        Two::CellSet => Effect::Halt(Fault::NotRun),
+        Two::CellGet => Effect::Halt(Fault::NotRun),
+        Two::ArrPush => Effect::Halt(Fault::NotRun),
+        Two::BaClone => Effect::Halt(Fault::NotRun),
     }
 }
 
@@ -217,9 +217,9 @@ fn slot(k: Slot, d: u16, s: u32, slot_kinds: &[u8], slot_payloads: &[u64]) -> Ef
 {
     match k {
         Slot::LoadConst => Effect::Write(d, read(slot_kinds, slot_payloads, s as usize)),
-        Slot::GetGlobal => Effect::Halt(faults::NOT_RUN),
-        Slot::SetGlobal => Effect::Halt(faults::NOT_RUN),
-        Slot::ArrNew => Effect::Halt(faults::NOT_RUN),
+        Slot::GetGlobal => Effect::Halt(Fault::NotRun),
+        Slot::SetGlobal => Effect::Halt(Fault::NotRun),
+        Slot::ArrNew => Effect::Halt(Fault::NotRun),
     }
 }
 
@@ -228,7 +228,7 @@ fn three(k: Three, d: u16, a: u16, b: u16, kinds: &[u8], payloads: &[u64]) -> Ef
 {
     let kind = three_kind(k);
     if kind == 0 {
-        return Effect::Halt(faults::NOT_RUN);
+        return Effect::Halt(Fault::NotRun);
     }
     let x = read(kinds, payloads, a as usize);
     let y = read(kinds, payloads, b as usize);
@@ -289,7 +289,7 @@ fn jump_imm(k: Cmp, a: u16, n: Imm16, z: Disp, kinds: &[u8], payloads: &[u64]) -
 fn jmp(z: Disp) -> Effect
     ensures { OfAny (Op.Jmp z) (asked result) }
 {
-    Effect::Branch(z, Answer::Is(Value::Bool(true)))
+    Effect::Branch(z, Ok(Value::Bool(true)))
 }
 
 pub fn effect_of(
@@ -312,19 +312,19 @@ pub fn effect_of(
         Op::BitAndMask(d, a, lo, len) => bit_and_mask(d, a, lo, len, kinds, payloads),
         Op::RshiftMask(d, a, n, lo, len) => rshift_mask(d, a, n, lo, len, kinds, payloads),
         Op::Arith(k, d, a, z) => arith(k, d, a, z, kinds, payloads),
-        Op::ClosNew(_, _, _) => Effect::Halt(faults::NOT_RUN),
-        Op::ClosSet(_, _, _) => Effect::Halt(faults::NOT_RUN),
-        Op::ClosGet(_, _) => Effect::Halt(faults::NOT_RUN),
-        Op::One(_, _) => Effect::Halt(faults::NOT_RUN),
-        Op::Wide(_, _, _, _) => Effect::Halt(faults::NOT_RUN),
+        Op::ClosNew(_, _, _) => Effect::Halt(Fault::NotRun),
+        Op::ClosSet(_, _, _) => Effect::Halt(Fault::NotRun),
+        Op::ClosGet(_, _) => Effect::Halt(Fault::NotRun),
+        Op::One(_, _) => Effect::Halt(Fault::NotRun),
+        Op::Wide(_, _, _, _) => Effect::Halt(Fault::NotRun),
         Op::If(k, a, z) => if_bool(k, a, z, kinds, payloads),
         Op::Jump(k, a, b, z) => jump(k, a, b, z, kinds, payloads),
         Op::JumpImm(k, a, n, z) => jump_imm(k, a, n, z, kinds, payloads),
         Op::Jmp(z) => jmp(z),
-        Op::Call(_, _, _, _) => Effect::Halt(faults::NOT_RUN),
-        Op::CallHost(_, _, _) => Effect::Halt(faults::NOT_RUN),
-        Op::ById(_, _, _, _) => Effect::Halt(faults::NOT_RUN),
-        Op::CallMethodHost(_, _, _, _) => Effect::Halt(faults::NOT_RUN),
-        Op::RetImm40(_) => Effect::Halt(faults::NOT_RUN),
+        Op::Call(_, _, _, _) => Effect::Halt(Fault::NotRun),
+        Op::CallHost(_, _, _) => Effect::Halt(Fault::NotRun),
+        Op::ById(_, _, _, _) => Effect::Halt(Fault::NotRun),
+        Op::CallMethodHost(_, _, _, _) => Effect::Halt(Fault::NotRun),
+        Op::RetImm40(_) => Effect::Halt(Fault::NotRun),
     }
 }

@@ -1,4 +1,7 @@
 -- What the constant slots have to show: when two constants are one, the search for a slot, and a slot that is taken.
+use Rattle.std.specs.Prelude.{Option, None, Result, Err}
+use Rattle.faults.specs.declared.Fault.{Fault}
+use Rattle.insns.specs.declared.Insn.{Insn}
 use mathlib.Core.Path.{◌≡◌, refl, sym, ap, subst, ◌∙◌}
 use mathlib.Core.Bool.{Bool, true, false, ◌&&◌, cond}
 use mathlib.Core.List.{List, [], ◌∷◌, ◌++◌, map, map-append}
@@ -18,15 +21,11 @@ use Rattle.faults.specs.Numbers.{no_slot, no_fit}
 use Rattle.int64.proofs.sign.Laws.{never}
 use Rattle.value.specs.Value.{Datum, nil, bool, int, float, kind_of, payload_of, of_pair, datum_of, datums}
 use Rattle.value.proofs.PairLaws.{datums-length, datum-at}
-use Rattle.insns.specs.declared.Made.{Made}
-use Rattle.insns.specs.declared.Made.TheVariants.{Refused}
 use Rattle.insns.specs.declared.op.Op.{Op}
 use Rattle.insns.specs.declared.op.Slot.TheVariants as Slot
 use Rattle.insns.specs.Fields.{word_if}
 use Rattle.insns.specs.Insns.{made_of}
 use Rattle.emit.specs.declared.state.St.{St}
-use Rattle.emit.specs.declared.state.Ans.{Ans}
-use Rattle.emit.specs.declared.state.Ans.TheVariants.{No}
 use Rattle.emit.specs.State.{same_int, alike, seek, slot_d, store_d, emit_d}
 use Rattle.emit.specs.Steps.{const_to}
 use Rattle.emit.specs.Read.{bufs, st_of, held_in, Held, const_of, Literal, Fit, Says, Steps}
@@ -249,24 +248,24 @@ module _ {ks ps : List ℕ} {n k p : ℕ} (held : Held ks ps n) (l : Literal k p
 
 -- ---- a constant and its word
 
-pub far-slot : (d k : ℕ) → 4294967295 < k → Refused ≡ made_of (Op.Slot Slot.LoadConst d k)
+pub far-slot : (d k : ℕ) → 4294967295 < k → None ≡ made_of (Op.Slot Slot.LoadConst d k)
 unfolding word_if
 far-slot d k h = rw (le-ltb k (2 ^ 32) h) (go' (ltb d (2 ^ 16)) _)
   where
-    go' : (t : Bool) (w : Made) → Refused ≡ cond (t && false) w Refused
+    go' : (t : Bool) (w : Option Insn) → None ≡ cond (t && false) w None
     go' true w = refl
     go' false w = refl
 
-pub slot-far : (c : List ℕ) (d k : ℕ) (st : St) → 4294967295 < k → Steps c c st (No no_fit) (emit_d (Op.Slot Slot.LoadConst d k) d)
+pub slot-far : (c : List ℕ) (d k : ℕ) (st : St) → 4294967295 < k → Steps c c st (Err no_fit) (emit_d (Op.Slot Slot.LoadConst d k) d)
 unfolding store_d
-slot-far c d k st h ks ps fit = let m : made_of (Op.Slot Slot.LoadConst d k) ≡ Refused = sym (far-slot d k h) in record { is = rw m; fit = tt }
+slot-far c d k st h ks ps fit = let m : made_of (Op.Slot Slot.LoadConst d k) ≡ None = sym (far-slot d k h) in record { is = rw m; fit = tt }
 
 abbrev taken : St → St
 taken st = record { count = st.count; slots = st.slots + 1; next = st.next; frame = st.frame }
 
 module _ {c ks ps : List ℕ} {st : St} (fit : Fit (bufs c ks ps) st) {k p : ℕ} (l : Literal k p) (d : ℕ) {at : ℕ} (is_at : at ≡ seek (const_of k p) (held_in ks ps st.slots)) where
   -- a slot holds it
-  pub const-shared : {c' : List ℕ} {r : Ans} → at < st.slots → Steps c c' st r (emit_d (Op.Slot Slot.LoadConst d at) d) →
+  pub const-shared : {c' : List ℕ} {r : Result (ℕ × St) Fault} → at < st.slots → Steps c c' st r (emit_d (Op.Slot Slot.LoadConst d at) d) →
       Says (bufs c' ks ps) r (const_to (const_of k p) (d, st_of (bufs c ks ps) st))
   unfolding const_to slot_d
   const-shared h s =
@@ -282,18 +281,18 @@ module _ {c ks ps : List ℕ} {st : St} (fit : Fit (bufs c ks ps) st) {k p : ℕ
         let i : length (held_in ks ps st.slots) ≤ seek (const_of k p) (held_in ks ps st.slots) = omega arith in
         le-ltb _ _ i
 
-    full : min (length ks) (length ps) ≤ st.slots → Says (bufs c ks ps) (No no_slot) (const_to (const_of k p) (d, st_of (bufs c ks ps) st))
+    full : min (length ks) (length ps) ≤ st.slots → Says (bufs c ks ps) (Err no_slot) (const_to (const_of k p) (d, st_of (bufs c ks ps) st))
     unfolding const_to slot_d
     full h = record { is = rw (none, slots-are fit.consts, le-ltb st.slots (min (length ks) (length ps)) h); fit = tt }
 
-    pub const-full-kinds : length ks ≤ st.slots → Says (bufs c ks ps) (No no_slot) (const_to (const_of k p) (d, st_of (bufs c ks ps) st))
+    pub const-full-kinds : length ks ≤ st.slots → Says (bufs c ks ps) (Err no_slot) (const_to (const_of k p) (d, st_of (bufs c ks ps) st))
     const-full-kinds h = full (omega arith)
 
-    pub const-full-payloads : length ps ≤ st.slots → Says (bufs c ks ps) (No no_slot) (const_to (const_of k p) (d, st_of (bufs c ks ps) st))
+    pub const-full-payloads : length ps ≤ st.slots → Says (bufs c ks ps) (Err no_slot) (const_to (const_of k p) (d, st_of (bufs c ks ps) st))
     const-full-payloads h = full (omega arith)
 
     -- a new slot
-    pub const-put : {c' : List ℕ} {r : Ans} → st.slots < length ks → st.slots < length ps → Steps c c' (taken st) r (emit_d (Op.Slot Slot.LoadConst d st.slots) d) →
+    pub const-put : {c' : List ℕ} {r : Result (ℕ × St) Fault} → st.slots < length ks → st.slots < length ps → Steps c c' (taken st) r (emit_d (Op.Slot Slot.LoadConst d st.slots) d) →
         Says (bufs c' (set ks st.slots k) (set ps st.slots p)) r (const_to (const_of k p) (d, st_of (bufs c ks ps) st))
     unfolding const_to slot_d
     const-put a b s =

@@ -1,8 +1,8 @@
 -- Branches and patching: the steps that the generator's rules of branches are made of. A branch is emitted with displacement 0, and its position is
 -- kept in a list until its target is known.
-use Rattle.std.specs.Prelude.{Bool, true, false, cond, List, [], ◌∷◌, ◌++◌, ℕ, eqb, ltb, pos}
+use Rattle.insns.specs.declared.Insn.{Insn}
+use Rattle.std.specs.Prelude.{Bool, true, false, cond, List, [], ◌∷◌, ◌++◌, ℕ, eqb, ltb, pos, Option}
 use Rattle.faults.specs.Numbers.{no_room}
-use Rattle.insns.specs.declared.Made.{Made}
 use Rattle.insns.specs.declared.op.Op.{Op}
 use Rattle.insns.specs.declared.op.Cmp.{Cmp as JumpCmp}
 use Rattle.insns.specs.declared.op.Disp.{Disp}
@@ -43,7 +43,7 @@ abbrev pub jmp_op : Op
 jmp_op = Op.Jmp to_patch
 
 -- a branch, whose position is the one jump of the list that is given back; 7 where the jump list has no room for it
-unfoldable pub leap_d : Made → ℕ → State → Res (List ℕ × State)
+unfoldable pub leap_d : Option Insn → ℕ → State → Res (List ℕ × State)
 leap_d made room s = cond (ltb 0 room) (do (_, s₁) ← store_d made 0 s; done (here s ∷ [], s₁)) (fail no_room)
 
 abbrev pub jump_d : Op → ℕ → State → Res (List ℕ × State)

@@ -1,68 +1,64 @@
 -- Plumbing: for branches what Read is for values. A branch answers how many jumps stand at the front of the lent jump list (`Jumps`); the definition
 -- gives the list of their positions.
-use Rattle.std.specs.Prelude.{◌≡◌, Bool, cond, List, ℕ, ◌+◌, ◌≤◌, eqb, length, take, drop}
-use Rattle.decode.specs.declared.patch.Patched.{Patched}
+use Rattle.faults.specs.declared.Fault.{Fault}
+use Rattle.std.specs.Prelude.{◌≡◌, Bool, cond, List, ℕ, ◌+◌, ◌≤◌, eqb, length, take, drop, Result, Ok, Err}
 use Rattle.decode.specs.Patch.{patched_number}
 use Rattle.emit.specs.declared.state.St.{St}
-use Rattle.emit.specs.declared.state.Ans.{Ans}
-use Rattle.emit.specs.declared.state.Ans.TheVariants.{Got, No}
 use Rattle.emit.specs.State.{Res, done, fail, bind, State}
 use Rattle.emit.specs.Read.{Bufs, bufs, st_of, Fit, read, FitAns}
-use Rattle.emit.specs.declared.jump.Jumps.{Jumps}
-use Rattle.emit.specs.declared.jump.Jumps.TheVariants as J
 use Rattle.emit.specs.Jump.{junction_to}
 
 -- ---- answers
 
 -- the definition's answer, with the buffers b and the jump list js as the code leaves them
-abbrev pub read_jumps : (b : Bufs) (js : List ℕ) → Jumps → Res (List ℕ × State)
-read_jumps b js (J.Are n st) = done (take n js, st_of b st)
-read_jumps b js (J.No n) = fail n
+abbrev pub read_jumps : (b : Bufs) (js : List ℕ) → Result (ℕ × St) Fault → Res (List ℕ × State)
+read_jumps b js (Ok (n, st)) = done (take n js, st_of b st)
+read_jumps b js (Err n) = fail n
 
-abbrev pub FitJumps : (b : Bufs) (js : List ℕ) → Jumps → Type 0
-FitJumps b js (J.Are n st) = (Fit b st) × (n ≤ length js)
-FitJumps b js (J.No n) = Unit {0}
+abbrev pub FitJumps : (b : Bufs) (js : List ℕ) → Result (ℕ × St) Fault → Type 0
+FitJumps b js (Ok (n, st)) = (Fit b st) × (n ≤ length js)
+FitJumps b js (Err n) = Unit {0}
 
 -- the answer r is what the definition gives
-pub record Lists (b : Bufs) (js : List ℕ) (r : Jumps) (m : Res (List ℕ × State)) : Type 0 where
+pub record Lists (b : Bufs) (js : List ℕ) (r : Result (ℕ × St) Fault) (m : Res (List ℕ × State)) : Type 0 where
   pub is : read_jumps b js r ≡ m
   pub fit : FitJumps b js r
 
 -- ---- contracts of leaves, for all slots, with kinds ks and payloads ps
 
 -- from the state st, the words being c before and c' after, and the jump list js after
-abbrev pub Jumping : (c c' js : List ℕ) (st : St) (r : Jumps) (f : State → Res (List ℕ × State)) → Type 0
+abbrev pub Jumping : (c c' js : List ℕ) (st : St) (r : Result (ℕ × St) Fault) (f : State → Res (List ℕ × State)) → Type 0
 Jumping c c' js st r f = (ks ps : List ℕ) → Fit (bufs c ks ps) st → Lists (bufs c' ks ps) js r (f (st_of (bufs c ks ps) st))
 
 -- from the answer x
-abbrev pub AfterJumping : (c c' js : List ℕ) (x : Ans) (r : Jumps) (f : ℕ × State → Res (List ℕ × State)) → Type 0
+abbrev pub AfterJumping : (c c' js : List ℕ) (x : Result (ℕ × St) Fault) (r : Result (ℕ × St) Fault) (f : ℕ × State → Res (List ℕ × State)) → Type 0
 AfterJumping c c' js x r f =
     (ks ps : List ℕ) → FitAns (bufs c ks ps) x → Lists (bufs c' ks ps) js r (bind (read (bufs c ks ps) x) f)
 
 -- ---- patching
 
 -- what the code makes of an answer of `patch`
-abbrev pub patched_ans : Patched → ℕ → St → Ans
-patched_ans p d st = cond (eqb (patched_number p) 0) (Got d st) (No (patched_number p))
+abbrev pub patched_ans : Result (Unit {0}) Fault → ℕ → St → Result (ℕ × St) Fault
+patched_ans p d st = cond (eqb (patched_number p) 0) (Ok (d, st)) (Err (patched_number p))
 
 -- the words of an answer are in the buffer c
-abbrev pub Counted : (c : List ℕ) → Ans → Type 0
-Counted c (Got r st) = st.count ≤ length c
-Counted c (No n) = Unit {0}
+abbrev pub Counted : (c : List ℕ) → Result (ℕ × St) Fault → Type 0
+Counted c (Ok (r, st)) = st.count ≤ length c
+Counted c (Err n) = Unit {0}
 
 -- ---- both sides of And or Or: the left side's n jumps stand at the front of the list js, the right side's after them
 
 -- the right side's answer is within the words c and the list
-abbrev pub Behind : (c js : List ℕ) (n : ℕ) → Jumps → Type 0
-Behind c js n (J.Are k st) = (n + k ≤ length js) × (st.count ≤ length c)
-Behind c js n (J.No f) = Unit {0}
+abbrev pub Behind : (c js : List ℕ) (n : ℕ) → Result (ℕ × St) Fault → Type 0
+Behind c js n (Ok (k, st)) = (n + k ≤ length js) × (st.count ≤ length c)
+Behind c js n (Err f) = Unit {0}
 
-pub record Joinable (c js : List ℕ) (n : ℕ) (y : Jumps) : Type 0 where
+pub record Joinable (c js : List ℕ) (n : ℕ) (y : Result (ℕ × St) Fault) : Type 0 where
   pub left : n ≤ length js
   pub right : Behind c js n y
 
 -- from the right side's answer y: words and list are c and js before, c' and js' after; `out` says where the left side's jumps go
-abbrev pub Joined : (c c' js js' : List ℕ) (out : Bool) (n : ℕ) (y r : Jumps) → Type 0
+abbrev pub Joined : (c c' js js' : List ℕ) (out : Bool) (n : ℕ) (y r : Result (ℕ × St) Fault) → Type 0
 Joined c c' js js' out n y r =
     (ks ps : List ℕ) → FitJumps (bufs c ks ps) (drop n js) y
     → Lists (bufs c' ks ps) js' r (bind (read_jumps (bufs c ks ps) (drop n js) y) (junction_to out (take n js)))

@@ -1,6 +1,7 @@
 -- Plumbing: how the contracts of the code speak of the definition. The code has counts (`St`) and lent buffers, the definition one state with lists
 -- (`State`). `st_of` reads that state off the buffers and `read` an answer; a contract says that what is read is what the definition gives (`Says`).
-use Rattle.std.specs.Prelude.{◌≡◌, ◌⊎◌, List, map, ℕ, ◌≤◌, ◌^◌, min, length, take}
+use Rattle.faults.specs.declared.Fault.{Fault}
+use Rattle.std.specs.Prelude.{◌≡◌, ◌⊎◌, List, map, ℕ, ◌≤◌, ◌^◌, min, length, take, Result, Ok, Err}
 use Rattle.std.specs.Int.{w64}
 use Rattle.std.proofs.Common.{Fits}
 use Rattle.faults.specs.Limits.{max_registers}
@@ -10,8 +11,6 @@ use Rattle.value.specs.Value.{Datum, kind_of, payload_of, of_pair, datum_of, dat
 use Rattle.insns.specs.Bits.{twos}
 use Rattle.insns.specs.declared.op.Imm16.{Imm16}
 use Rattle.emit.specs.declared.state.St.{St}
-use Rattle.emit.specs.declared.state.Ans.{Ans}
-use Rattle.emit.specs.declared.state.Ans.TheVariants.{Got, No}
 use Rattle.emit.specs.State.{Res, done, fail, bind, State}
 
 -- ---- the state
@@ -60,27 +59,27 @@ freed st top = record { count = st.count; slots = st.slots; next = top; frame = 
 -- ---- answers
 
 -- the definition's answer, with the buffers as the code leaves them
-abbrev pub read : Bufs → Ans → Res (ℕ × State)
-read b (Got r st) = done (r, st_of b st)
-read b (No n) = fail n
+abbrev pub read : Bufs → Result (ℕ × St) Fault → Res (ℕ × State)
+read b (Ok (r, st)) = done (r, st_of b st)
+read b (Err n) = fail n
 
-abbrev pub FitAns : Bufs → Ans → Type 0
-FitAns b (Got r st) = Fit b st
-FitAns b (No n) = Unit {0}
+abbrev pub FitAns : Bufs → Result (ℕ × St) Fault → Type 0
+FitAns b (Ok (r, st)) = Fit b st
+FitAns b (Err n) = Unit {0}
 
 -- the answer r is what the definition gives
-pub record Says (b : Bufs) (r : Ans) (m : Res (ℕ × State)) : Type 0 where
+pub record Says (b : Bufs) (r : Result (ℕ × St) Fault) (m : Res (ℕ × State)) : Type 0 where
   pub is : read b r ≡ m
   pub fit : FitAns b r
 
 -- ---- contracts of leaves. A leaf takes no slot, so it speaks for all slots, with kinds ks and payloads ps
 
 -- from the state st, the words being c before and c' after, the answer r is what f gives
-abbrev pub Steps : (c c' : List ℕ) (st : St) (r : Ans) (f : State → Res (ℕ × State)) → Type 0
+abbrev pub Steps : (c c' : List ℕ) (st : St) (r : Result (ℕ × St) Fault) (f : State → Res (ℕ × State)) → Type 0
 Steps c c' st r f = (ks ps : List ℕ) → Fit (bufs c ks ps) st → Says (bufs c' ks ps) r (f (st_of (bufs c ks ps) st))
 
 -- the same from an answer x: what f gives of its register and its state, or x where that is a refusal
-abbrev pub After : (c c' : List ℕ) (x r : Ans) (f : ℕ × State → Res (ℕ × State)) → Type 0
+abbrev pub After : (c c' : List ℕ) (x r : Result (ℕ × St) Fault) (f : ℕ × State → Res (ℕ × State)) → Type 0
 After c c' x r f = (ks ps : List ℕ) → FitAns (bufs c ks ps) x → Says (bufs c' ks ps) r (bind (read (bufs c ks ps) x) f)
 
 -- ---- a literal that takes a slot

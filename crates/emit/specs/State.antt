@@ -1,15 +1,12 @@
 -- The generator's state, and the steps that change it: registers, constant slots, words. A step gives an answer and the state after it, or a refusal.
-use Rattle.std.specs.Prelude.{Bool, false, cond, List, [], ◌∷◌, ◌++◌, ℕ, suc, ◌+◌, max, ltb, eqb, ℤ, pos, negsuc, length}
+use Rattle.insns.specs.declared.Insn.{Insn}
+use Rattle.std.specs.Prelude.{Bool, false, cond, List, [], ◌∷◌, ◌++◌, ℕ, suc, ◌+◌, max, ltb, eqb, ℤ, pos, negsuc, length, Option, Some, None}
 use Rattle.faults.specs.Numbers.{no_register, no_slot, no_room}
 use Rattle.faults.specs.Limits.{max_registers}
 use Rattle.value.specs.Value.{Datum, nil, bool, int, float}
-use Rattle.insns.specs.declared.Made.{Made}
-use Rattle.insns.specs.declared.Made.TheVariants.{Fits, Refused}
 use Rattle.insns.specs.declared.op.Op.{Op}
 use Rattle.insns.specs.Fields.{made_number}
 use Rattle.insns.specs.Insns.{made_of}
-use Rattle.emit.specs.declared.state.Dst.{Dst}
-use Rattle.emit.specs.declared.state.Dst.TheVariants.{Any, To}
 
 -- an answer, or the number of a refusal
 pub data Res (A : Type 0) : Type 0 where
@@ -59,9 +56,9 @@ alloc_d s =
     (fail no_register)
 
 -- the register that is asked for, or the first free one
-unfoldable pub dest_d : Dst → State → Res (ℕ × State)
-dest_d (To d) s = done (d, s)
-dest_d Any s = alloc_d s
+unfoldable pub dest_d : Option ℕ → State → Res (ℕ × State)
+dest_d (Some d) s = done (d, s)
+dest_d None s = alloc_d s
 
 -- ---- constants
 
@@ -103,9 +100,9 @@ slot_d c s =
     (fail no_slot))
 
 -- one word more; 9 where an operand does not fit its field, 7 where there is no room. The register d, whose value the word makes, is the answer
-unfoldable pub store_d : Made → ℕ → State → Res (ℕ × State)
-store_d Refused d s = fail (made_number Refused)
-store_d (Fits w) d s = cond (ltb (here s) s.cap) (done (d, with_words (s.words ++ (w.bits ∷ [])) s)) (fail no_room)
+unfoldable pub store_d : Option Insn → ℕ → State → Res (ℕ × State)
+store_d None d s = fail (made_number None)
+store_d (Some w) d s = cond (ltb (here s) s.cap) (done (d, with_words (s.words ++ (w.bits ∷ [])) s)) (fail no_room)
 
 -- the word of an instruction (`emit`)
 abbrev pub emit_d : Op → ℕ → State → Res (ℕ × State)

@@ -10,7 +10,7 @@ use insns::bits::signed_bits;
 use insns::encode::{arith_op, jump_imm_op, jump_op, one_word, two_word};
 use insns::fields::{make0, make2, make3, raw_bits};
 use insns::op::{Arith, Cmp, Imm16, Imm40};
-use insns::{Insn, Made};
+use insns::Insn;
 
 // The sizes of a register's field, of a literal's and of a raw immediate's.
 const REGISTER: u64 = 65536;
@@ -19,7 +19,7 @@ const LITERAL: u64 = 65536;
 
 const RAW: u64 = 1099511627776;
 
-pub fn load_imm40(dst: u16, imm: Imm40) -> Made
+pub fn load_imm40(dst: u16, imm: Imm40) -> Option<Insn>
     ensures { result ≡ made_of (Op.LoadImm40 dst imm) }
 {
     make2(Insn::LOAD_IMM40, REGISTER, dst as u64, RAW, raw_bits(imm))
@@ -32,7 +32,7 @@ fn literal_bits(imm: Imm16) -> u64
     signed_bits(imm.n as i64, LITERAL / 2)
 }
 
-pub fn arith(k: Arith, dst: u16, a: u16, imm: Imm16) -> Made
+pub fn arith(k: Arith, dst: u16, a: u16, imm: Imm16) -> Option<Insn>
     ensures { result ≡ made_of (Op.Arith k dst a imm) }
 {
     make3(
@@ -47,7 +47,7 @@ pub fn arith(k: Arith, dst: u16, a: u16, imm: Imm16) -> Made
 }
 
 // if_true, or if_false.
-pub fn test(sense: bool, val: u16) -> Made
+pub fn test(sense: bool, val: u16) -> Option<Insn>
     ensures { result ≡ made_of (Op.If (sense_of sense) val to_patch) }
 {
     if sense {
@@ -56,13 +56,13 @@ pub fn test(sense: bool, val: u16) -> Made
     one_word(Insn::IF_FALSE, val)
 }
 
-pub fn jump(k: Cmp, a: u16, b: u16) -> Made
+pub fn jump(k: Cmp, a: u16, b: u16) -> Option<Insn>
     ensures { result ≡ made_of (Op.Jump k a b to_patch) }
 {
     two_word(jump_op(k), a, b)
 }
 
-pub fn jump_imm(k: Cmp, a: u16, imm: Imm16) -> Made
+pub fn jump_imm(k: Cmp, a: u16, imm: Imm16) -> Option<Insn>
     ensures { result ≡ made_of (Op.JumpImm k a imm to_patch) }
 {
     make2(
@@ -74,7 +74,7 @@ pub fn jump_imm(k: Cmp, a: u16, imm: Imm16) -> Made
     )
 }
 
-pub fn jmp() -> Made
+pub fn jmp() -> Option<Insn>
     ensures { result ≡ made_of (Op.Jmp to_patch) }
 {
     make0(Insn::JMP)

@@ -7,7 +7,8 @@ ghost use Rattle.emit.specs.State.{seek, emit_d};
 ghost use Rattle.emit.specs.Steps.{const_to};
 ghost use Rattle.emit.specs.Read.{bufs, st_of, held_in, const_of, Held, Literal, Fit, Says, Steps};
 
-use crate::state::{Ans, St};
+use faults::Fault;
+use crate::state::St;
 use crate::word::emit;
 use insns::Insn;
 
@@ -42,11 +43,11 @@ fn find_const(kinds: &[u8], payloads: &[u64], n: usize, kind: u8, payload: u64) 
 }
 
 // Loads the constant of slot k into the register d. Refuses with 9 if k has more than 32 bits.
-fn load_slot(code: &mut [u64], k: usize, d: u16, st: St) -> Ans
+fn load_slot(code: &mut [u64], k: usize, d: u16, st: St) -> Result<(u16, St), Fault>
     ensures { Steps code.old code.new st result (emit_d (Op.Slot Slot.LoadConst d k) d) }
 {
     if 4294967295 < k {
-        return Ans::No(faults::NO_FIT);
+        return Err(Fault::NoFit);
     }
     emit(code, Insn::load_const(d, k as u32), d, st)
 }
@@ -60,7 +61,7 @@ pub(crate) fn push_const(
     payload: u64,
     d: u16,
     st: St,
-) -> Ans
+) -> Result<(u16, St), Fault>
     requires { (Fit (bufs code.old kinds.old payloads.old) st) × (Literal kind payload) }
     ensures { Says (bufs code.new kinds.new payloads.new) result
         (const_to (const_of kind payload) (d, st_of (bufs code.old kinds.old payloads.old) st)) }
@@ -71,10 +72,10 @@ pub(crate) fn push_const(
         return load_slot(code, k, d, st);
     }
     if kinds.len() <= n {
-        return Ans::No(faults::NO_SLOT);
+        return Err(Fault::NoSlot);
     }
     if payloads.len() <= n {
-        return Ans::No(faults::NO_SLOT);
+        return Err(Fault::NoSlot);
     }
     kinds[n] = kind;
     payloads[n] = payload;

@@ -7,47 +7,41 @@ ghost use Rattle.emit.specs.Read.{Steps, After};
 ghost use Rattle.emit.specs.Jump.{jmp_op, leap_d, patch_d, patches_d, how_op, one_to, pair_to, turn_d, true_d, bool_d};
 ghost use Rattle.emit.specs.Lists.{patched_ans, Jumping, AfterJumping, Joinable, Joined, Counted};
 
-use crate::state::{Ans, St, free_to};
+use faults::Fault;
+use insns::Insn;
+use crate::state::{St, free_to};
 use crate::word::{RAW_FALSE, RAW_TRUE, emit, emit_load};
-use decode::patch::{Patched, number_of};
+use decode::patch::number_of;
 use fold::How;
-use insns::Made;
 use insns::op::{Cmp, Imm40};
 
-// How many jumps stand at the front of the jump list, and the state; or the number of a refusal.
-#[derive(Clone, Copy)]
-pub enum Jumps {
-    Are(usize, St),
-    No(u8),
-}
-
 // A jmp whose displacement is to be patched.
-fn emit_jmp(code: &mut [u64], d: u16, st: St) -> Ans
+fn emit_jmp(code: &mut [u64], d: u16, st: St) -> Result<(u16, St), Fault>
     ensures { Steps code.old code.new st result (emit_d jmp_op d) }
 {
     emit(code, crate::build::jmp(), d, st)
 }
 
 // A branch, whose position is the one jump of the list. Refuses with 7 if the list has no room.
-fn jump(code: &mut [u64], jumps: &mut [u64], made: Made, st: St) -> Jumps
+fn jump(code: &mut [u64], jumps: &mut [u64], made: Option<Insn>, st: St) -> Result<(usize, St), Fault>
     ensures { Jumping code.old code.new jumps.new st result (leap_d made (length jumps.old)) }
 {
     if jumps.len() == 0 {
-        return Jumps::No(faults::NO_ROOM);
+        return Err(Fault::NoRoom);
     }
     let p = st.count;
     let x = emit(code, made, 0, st);
     match x {
-        Ans::Got(_, s) => {
+        Ok((_, s)) => {
             jumps[0] = p as u64;
-            Jumps::Are(1, s)
+            Ok((1, s))
         }
-        Ans::No(n) => Jumps::No(n),
+        Err(n) => Err(n),
     }
 }
 
 // The branch that tests one register. Its displacement is filled in later, when the jump is patched to its target.
-fn how_word(how: How, a: u16) -> Made
+fn how_word(how: How, a: u16) -> Option<Insn>
     ensures { result ≡ made_of (how_op how a) }
 {
     match how {
@@ -57,37 +51,37 @@ fn how_word(how: How, a: u16) -> Made
 }
 
 // The value is in a register: the branch that tests it.
-pub fn jump_one(code: &mut [u64], jumps: &mut [u64], how: How, top: u16, x: Ans) -> Jumps
+pub fn jump_one(code: &mut [u64], jumps: &mut [u64], how: How, top: u16, x: Result<(u16, St), Fault>) -> Result<(usize, St), Fault>
     ensures { AfterJumping code.old code.new jumps.new x result (one_to how (length jumps.old) top) }
 {
     match x {
-        Ans::Got(a, s) => jump(code, jumps, how_word(how, a), free_to(s, top)),
-        Ans::No(f) => Jumps::No(f),
+        Ok((a, s)) => jump(code, jumps, how_word(how, a), free_to(s, top)),
+        Err(f) => Err(f),
     }
 }
 
 // Both values are in registers, the left one in a: the branch that compares them.
-pub fn jump_pair(code: &mut [u64], jumps: &mut [u64], cmp: Cmp, a: u16, top: u16, y: Ans) -> Jumps
+pub fn jump_pair(code: &mut [u64], jumps: &mut [u64], cmp: Cmp, a: u16, top: u16, y: Result<(u16, St), Fault>) -> Result<(usize, St), Fault>
     ensures { AfterJumping code.old code.new jumps.new y result (pair_to cmp a (length jumps.old) top) }
 {
     match y {
-        Ans::Got(b, s) => jump(code, jumps, crate::build::jump(cmp, a, b), free_to(s, top)),
-        Ans::No(f) => Jumps::No(f),
+        Ok((b, s)) => jump(code, jumps, crate::build::jump(cmp, a, b), free_to(s, top)),
+        Err(f) => Err(f),
     }
 }
 
-fn patched(p: Patched, d: u16, st: St) -> Ans
+fn patched(p: Result<(), Fault>, d: u16, st: St) -> Result<(u16, St), Fault>
     ensures { result ≡ patched_ans p d st }
 {
     let f = number_of(p);
     if f != faults::NONE {
-        return Ans::No(f);
+        return Err(f);
     }
-    Ans::Got(d, st)
+    Ok((d, st))
 }
 
 // Points a jump that was emitted at p at the next word. Displacements count instructions from the one after the jump.
-fn patch_jump(code: &mut [u64], p: usize, d: u16, st: St) -> Ans
+fn patch_jump(code: &mut [u64], p: usize, d: u16, st: St) -> Result<(u16, St), Fault>
     requires { st.count ≤ length code.old }
     ensures { Steps code.old code.new st result (patch_d p d) }
 {
@@ -97,7 +91,7 @@ fn patch_jump(code: &mut [u64], p: usize, d: u16, st: St) -> Ans
 }
 
 // Points a set of jumps, as a test can produce more than one, at the same word.
-fn patch_jumps(code: &mut [u64], jumps: &[u64], d: u16, st: St) -> Ans
+fn patch_jumps(code: &mut [u64], jumps: &[u64], d: u16, st: St) -> Result<(u16, St), Fault>
     requires { st.count ≤ length code.old }
     ensures { Steps code.old code.new st result (patches_d jumps.now d) }
 {
@@ -120,57 +114,57 @@ fn slide(jumps: &mut [u64], n: usize, k: usize)
 
 // Both sides of And or Or are made, the left one with n jumps. In one sense of the test they go where the right side's go (`out`); in the other they only
 // skip the right side, which is what the patch is for.
-pub fn join(code: &mut [u64], jumps: &mut [u64], out: bool, n: usize, y: Jumps) -> Jumps
+pub fn join(code: &mut [u64], jumps: &mut [u64], out: bool, n: usize, y: Result<(usize, St), Fault>) -> Result<(usize, St), Fault>
     requires { Joinable code.old jumps.old n y }
     ensures { Joined code.old code.new jumps.old jumps.new out n y result }
 {
-    let Jumps::Are(k, s) = y else {
+    let Ok((k, s)) = y else {
         return y;
     };
     if out {
         let all = n + k;
-        return Jumps::Are(all, s);
+        return Ok((all, s));
     }
     let z = patch_jumps(code, &jumps[..n], 0, s);
     match z {
-        Ans::Got(_, t) => {
+        Ok((_, t)) => {
             slide(jumps, n, k);
-            Jumps::Are(k, t)
+            Ok((k, t))
         }
-        Ans::No(f) => Jumps::No(f),
+        Err(f) => Err(f),
     }
 }
 
 // The then side of a ternary is made: a jmp over the else side, and the jumps of the test go to that side.
-pub fn turn(code: &mut [u64], jumps: &[u64], d: u16, st: St) -> Ans
+pub fn turn(code: &mut [u64], jumps: &[u64], d: u16, st: St) -> Result<(u16, St), Fault>
     requires { st.count ≤ length code.old }
     ensures { Steps code.old code.new st result (turn_d jumps.now d) }
 {
     let x = emit_jmp(code, d, st);
-    let Ans::Got(_, s) = x else {
+    let Ok((_, s)) = x else {
         return x;
     };
     patch_jumps(code, jumps, d, s)
 }
 
 // The else side is made: the jmp at p, which jumps over it, goes behind it.
-pub fn settle(code: &mut [u64], p: usize, d: u16, x: Ans) -> Ans
+pub fn settle(code: &mut [u64], p: usize, d: u16, x: Result<(u16, St), Fault>) -> Result<(u16, St), Fault>
     requires { Counted code.old x }
     ensures { After code.old code.new x result (λ y. patch_d p d y.1) }
 {
-    let Ans::Got(_, s) = x else {
+    let Ok((_, s)) = x else {
         return x;
     };
     patch_jump(code, p, d, s)
 }
 
 // The branch lands on the true case: a load of True into d; the jmp at p, which jumps over it, goes behind it.
-fn load_true(code: &mut [u64], jumps: &[u64], p: usize, d: u16, st: St) -> Ans
+fn load_true(code: &mut [u64], jumps: &[u64], p: usize, d: u16, st: St) -> Result<(u16, St), Fault>
     requires { st.count ≤ length code.old }
     ensures { Steps code.old code.new st result (true_d jumps.now p d) }
 {
     let x = patch_jumps(code, jumps, d, st);
-    let Ans::Got(_, s) = x else {
+    let Ok((_, s)) = x else {
         return x;
     };
     let y = emit_load(code, Imm40 { raw: RAW_TRUE }, d, s);
@@ -179,17 +173,17 @@ fn load_true(code: &mut [u64], jumps: &[u64], p: usize, d: u16, st: St) -> Ans
 
 // A condition as a boolean value, from the jumps of its branch: load False, jmp, load True. The branch it compiles to is what decides the result, so a
 // comparison costs no more here than it does as a test.
-pub fn gen_bool(code: &mut [u64], jumps: &[u64], d: u16, st: St) -> Ans
+pub fn gen_bool(code: &mut [u64], jumps: &[u64], d: u16, st: St) -> Result<(u16, St), Fault>
     requires { st.count ≤ length code.old }
     ensures { Steps code.old code.new st result (bool_d jumps.now d) }
 {
     let x = emit_load(code, Imm40 { raw: RAW_FALSE }, d, st);
-    let Ans::Got(_, s) = x else {
+    let Ok((_, s)) = x else {
         return x;
     };
     let p = s.count;
     let y = emit_jmp(code, d, s);
-    let Ans::Got(_, t) = y else {
+    let Ok((_, t)) = y else {
         return y;
     };
     load_true(code, jumps, p, d, t)

@@ -5,8 +5,9 @@ ghost use Rattle.table.specs.Tree.{Leaf, leaf_kind, kind_of};
 ghost use Rattle.emit.specs.Steps.{const_d, leaf_d};
 ghost use Rattle.emit.specs.Read.{bufs, st_of, const_of, Fit, Says, Literal, LeafReady};
 
+use faults::Fault;
 use crate::consts::{FLOAT_SLOT, INT_SLOT, push_const};
-use crate::state::{Ans, Dst, St, dest};
+use crate::state::{St, dest};
 use crate::word::{RAW_FALSE, RAW_NIL, RAW_TRUE, put_load};
 use fold::literal::fits_imm40;
 use insns::op::Imm40;
@@ -18,15 +19,15 @@ fn gen_const(
     payloads: &mut [u64],
     kind: u8,
     payload: u64,
-    dst: Dst,
+    dst: Option<u16>,
     st: St,
-) -> Ans
+) -> Result<(u16, St), Fault>
     requires { (Fit (bufs code.old kinds.old payloads.old) st) × (Literal kind payload) }
     ensures { Says (bufs code.new kinds.new payloads.new) result
         (const_d (const_of kind payload) dst (st_of (bufs code.old kinds.old payloads.old) st)) }
 {
     let x = dest(dst, st);
-    let Ans::Got(d, s) = x else {
+    let Ok((d, s)) = x else {
         return x;
     };
     push_const(code, kinds, payloads, kind, payload, d, s)
@@ -40,9 +41,9 @@ pub fn gen_value(
     kinds: &mut [u8],
     payloads: &mut [u64],
     i: usize,
-    dst: Dst,
+    dst: Option<u16>,
     st: St,
-) -> Ans
+) -> Result<(u16, St), Fault>
     requires leaf_ready { LeafReady nodes.now i }
     requires fit { Fit (bufs code.old kinds.old payloads.old) st }
     ensures { (f : ℕ → Leaf) → kind_of (kind_at nodes.now i) ≡ leaf_kind f
@@ -63,6 +64,6 @@ pub fn gen_value(
             gen_const(code, kinds, payloads, INT_SLOT, p, dst, st)
         }
         table::FLOAT => gen_const(code, kinds, payloads, FLOAT_SLOT, p, dst, st),
-        _ => Ans::Got(p as u16, st),
+        _ => Ok((p as u16, st)),
     }
 }

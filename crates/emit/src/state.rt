@@ -4,6 +4,8 @@ ghost use Rattle.std.specs.Prelude.{◌≡◌, List, ℕ, max};
 ghost use Rattle.emit.specs.State.{alloc_d, dest_d};
 ghost use Rattle.emit.specs.Read.{freed, Steps};
 
+use faults::Fault;
+
 // How many words and constants there are, the next free temporary, and the high water mark, which is the frame size that the expression needs (`Regs`).
 #[derive(Clone, Copy)]
 pub struct St {
@@ -11,21 +13,6 @@ pub struct St {
     pub slots: usize,
     pub next: u16,
     pub frame: u16,
-}
-
-// Where a value goes. A register that is named is a hint: an expression that has to write somewhere writes there, but one whose value already sits in a
-// register hands that register back untouched. Callers that need the value in a specific register go through `gen_into`.
-#[derive(Clone, Copy)]
-pub enum Dst {
-    Any,
-    To(u16),
-}
-
-// The register that holds a value, and the state after it; or the number of a refusal.
-#[derive(Clone, Copy)]
-pub enum Ans {
-    Got(u16, St),
-    No(u8),
 }
 
 fn larger(a: u16, b: u16) -> u16
@@ -47,16 +34,16 @@ pub(crate) fn free_to(st: St, top: u16) -> St
 }
 
 // Reserves one register to hold an intermediate value. Refuses with 5 if the frame is too large.
-fn alloc(st: St) -> Ans
+fn alloc(st: St) -> Result<(u16, St), Fault>
     ensures { (c : List ℕ) → Steps c c st result alloc_d }
 {
     let n = st.next;
     if faults::MAX_REGISTERS <= n as u64 {
-        return Ans::No(faults::NO_REGISTER);
+        return Err(Fault::NoRegister);
     }
     let m = n + 1;
     let f = larger(st.frame, m);
-    Ans::Got(
+    Ok((
         n,
         St {
             count: st.count,
@@ -64,15 +51,15 @@ fn alloc(st: St) -> Ans
             next: m,
             frame: f,
         },
-    )
+    ))
 }
 
 // The register to write into, for what produces a new value (`out!` in the Rust): the one that is asked for, or the first free one.
-pub fn dest(dst: Dst, st: St) -> Ans
+pub fn dest(dst: Option<u16>, st: St) -> Result<(u16, St), Fault>
     ensures { (c : List ℕ) → Steps c c st result (dest_d dst) }
 {
     match dst {
-        Dst::To(d) => Ans::Got(d, st),
-        Dst::Any => alloc(st),
+        Some(d) => Ok((d, st)),
+        None => alloc(st),
     }
 }

@@ -1,4 +1,5 @@
 -- What `evaluate` has to show at each of its returns and calls.
+use Rattle.std.specs.Prelude.{None}
 use mathlib.Core.Path.{◌≡◌, refl, sym, ◌∙◌, ap}
 use mathlib.Core.Bool.{Bool, true, false, not}
 use mathlib.Core.List.{List}
@@ -14,16 +15,15 @@ use Rattle.faults.proofs.Faults.{second, stop}
 use Rattle.table.specs.Table.{node_count, check_of}
 use Rattle.table.specs.Nodes.{Node}
 use Rattle.table.specs.Tree.{tree}
-use Rattle.table.specs.declared.Dest.TheVariants.{None}
 use Rattle.table.specs.Accepted.{Accepted}
 use Rattle.table.proofs.Whole.{accepted}
 use Rattle.value.specs.Value.{all_well, datums}
-use Rattle.value.specs.Answer.{Result, fault as faulted}
+use Rattle.value.specs.Answer.{Answer, fault as faulted}
 use Rattle.eval.specs.Eval.{eval_of}
 use Rattle.eval.specs.Evaluate.{locals_fault, unless, evaluate_of}
 use Rattle.eval.specs.Steps.{Lends}
 
-refused : (n : ℕ) (r : Result) → (n ≡ 0 → ⊥) → faulted n ≡ unless n r
+refused : (n : ℕ) (r : Answer) → (n ≡ 0 → ⊥) → faulted n ≡ unless n r
 unfolding unless
 refused zero r h = absurd (h refl)
 refused (suc n) r h = refl
@@ -36,7 +36,7 @@ module _ (n : ℕ) (ks ps : List ℕ) {m : ℕ} (f : m ≡ min (length ks) (leng
   pub in_payloads : n ≡ length (take n ps)
   in_payloads = rw length-take (omega arith)
 
-module _ (ws ks ps : List ℕ) (params locals : ℕ) {n : ℕ} (e : n ≡ check_of ws params locals None) where
+module _ (ws ks ps : List ℕ) (params locals : ℕ) {n : Fault} (e : n ≡ check_of ws params locals None) where
   pub table-refused : (n ≡ 0 → ⊥) → faulted n ≡ evaluate_of ws params locals ks ps
   unfolding evaluate_of
   table-refused h = rw (← stop _ e h) (refused n _ h)
@@ -72,7 +72,7 @@ module _ (ws ks ps : List ℕ) (params locals : ℕ) {n : ℕ} (e : n ≡ check_
             pub lends : Lends (take (params + locals) ks) (take (params + locals) ps)
             lends = record { even = sym (in_kinds (params + locals) ks ps f h) ∙ in_payloads (params + locals) ks ps f h; wells = sym w ∙ t }
 
-            pub evaluated : {r : Result} → r ≡ eval_of (datums (take (params + locals) ks) (take (params + locals) ps)) (tree ws (node_count ws - 1)) → r ≡ evaluate_of ws params locals ks ps
+            pub evaluated : {r : Answer} → r ≡ eval_of (datums (take (params + locals) ks) (take (params + locals) ps)) (tree ws (node_count ws - 1)) → r ≡ evaluate_of ws params locals ks ps
             unfolding evaluate_of locals_fault unless fault ◌or_else◌
             evaluated q = rw (second _ _ (sym e ∙ z), le-ltb _ _ enough, ← w, t) q
 

@@ -1,4 +1,6 @@
 -- The answer of a node from its children's, as the code puts it together, is the meaning of its tree. `search walks` answers `eval_node`.
+use Rattle.std.specs.Prelude.{Option, Some, None, Result, Ok, Err}
+use Rattle.faults.specs.declared.Fault.{Fault}
 use mathlib.Core.Path.{◌≡◌, refl, sym, ◌∙◌, ap, subst}
 use mathlib.Core.Bool.{Bool, true, false, cond}
 use mathlib.Core.List.{List}
@@ -16,17 +18,13 @@ use Rattle.table.proofs.Trees.{UnaryAt, BinaryAt, TernaryAt, View, is_leaf, is-u
 use Rattle.value.specs.Value.{Datum, bool, datums}
 use Rattle.ops.specs.Ops as Ops
 use Rattle.ops.specs.Not as Not
-use Rattle.value.specs.Answer.{Result, is, fault}
+use Rattle.value.specs.Answer.{Answer, is, fault}
 use Rattle.eval.specs.Eval.{leaf_of, unary_of, arith_of, cmp_of, binary_of, eval_of}
 use Rattle.eval.specs.Apply.{on, both, whether, test}
 use Rattle.eval.specs.Next.{Ruled, truth_of, rule_of, first_of, after_of, chosen_of, next_of}
 use Rattle.eval.specs.Steps.{leaves, alone_of, joined_of}
-use Rattle.eval.specs.declared.next.Next.{Next}
-use Rattle.eval.specs.declared.next.Next.TheVariants.{Stop, Go}
 use Rattle.eval.specs.declared.next.Rule.{Rule}
 use Rattle.eval.specs.declared.next.Rule.TheVariants as R
-use Rattle.eval.specs.declared.next.Truth.{Truth}
-use Rattle.eval.specs.declared.next.Truth.TheVariants.{Yes, No, Wrong}
 use Rattle.eval.proofs.next.Laws.{rule-unary, rule-operator, rule-ternary}
 use Rattle.eval.proofs.apply.Laws.{chooses, whether-by}
 
@@ -74,24 +72,24 @@ unary-is T.not' = refl
 
 -- ---- one node with children, over answers alone: x is the first child's, and `e j` that of the child j
 
-never-stops : {A : Type 0} {j : ℕ} → Go j ≡ Stop → A
+never-stops : {A : Type 0} {j : ℕ} → Some j ≡ None → A
 never-stops h = absurd (let z : ◌≡◌ {A = ℕ} 0 1 = cc in omega arith)
 
-never-goes : {A : Type 0} {j : ℕ} → Stop ≡ Go j → A
+never-goes : {A : Type 0} {j : ℕ} → None ≡ Some j → A
 never-goes h = absurd (let z : ◌≡◌ {A = ℕ} 0 1 = cc in omega arith)
 
 -- where the code stops, x gives the answer t; where it goes on with j, j is a child, and x and j's answer give it
-record Gives (ws : List ℕ) (base i k : ℕ) (e : ℕ → Result) (r : Rule) (x t : Result) : Type 0 where
-  stops : next_of r ws i x ≡ Stop → alone_of r k x ≡ t
-  child : (j : ℕ) → next_of r ws i x ≡ Go j → Child ws base i j
-  goes : (j : ℕ) → next_of r ws i x ≡ Go j → joined_of r k x (e j) ≡ t
+record Gives (ws : List ℕ) (base i k : ℕ) (e : ℕ → Answer) (r : Rule) (x t : Answer) : Type 0 where
+  stops : next_of r ws i x ≡ None → alone_of r k x ≡ t
+  child : (j : ℕ) → next_of r ws i x ≡ Some j → Child ws base i j
+  goes : (j : ℕ) → next_of r ws i x ≡ Some j → joined_of r k x (e j) ≡ t
 
-module _ (ws : List ℕ) (base i k : ℕ) (e : ℕ → Result) where
-  unary-gives : (x : Result) (o : Unary) → k ≡ unary_code o → Gives ws base i k e R.Unary x (on (unary_of o) x)
+module _ (ws : List ℕ) (base i k : ℕ) (e : ℕ → Answer) where
+  unary-gives : (x : Answer) (o : Unary) → k ≡ unary_code o → Gives ws base i k e R.Unary x (on (unary_of o) x)
   unary-gives x o h = record { stops = λ s. rw (h, unary-is o); child = λ j s. never-goes s; goes = λ j s. never-goes s }
 
   module _ (c : Child ws base i (child1 ws i)) where
-    operator-gives : (x : Result) (f : Datum → Datum → Result) → Ops.binary_of k ≡ f → Gives ws base i k e R.Operator x (both f x (e (child1 ws i)))
+    operator-gives : (x : Answer) (f : Datum → Datum → Answer) → Ops.binary_of k ≡ f → Gives ws base i k e R.Operator x (both f x (e (child1 ws i)))
     unfolding both
     operator-gives (is v) f h =
         record {
@@ -101,66 +99,66 @@ module _ (ws : List ℕ) (base i k : ℕ) (e : ℕ → Result) where
         }
     operator-gives (fault n) f h = record { stops = λ s. refl; child = λ j s. never-goes s; goes = λ j s. never-goes s }
 
-module _ (ws : List ℕ) (base i k : ℕ) (e : ℕ → Result) (x : Result) (c : Child ws base i (child1 ws i)) where
+module _ (ws : List ℕ) (base i k : ℕ) (e : ℕ → Answer) (x : Answer) (c : Child ws base i (child1 ws i)) where
   tests : test x ≡ chooses (truth_of x) (is (bool true)) (is (bool false))
   unfolding test
   tests = whether-by x (is (bool true)) (is (bool false))
 
-  went : {l : ℕ} (j : ℕ) → Child ws base i l → Go l ≡ Go j → Child ws base i j
+  went : {l : ℕ} (j : ℕ) → Child ws base i l → Some l ≡ Some j → Child ws base i j
   went {l} j d s = let q : l ≡ j = cc in rw (← q) d
 
   and-gives : Gives ws base i k e R.And x (whether x (test (e (child1 ws i))) (is (bool false)))
   and-gives = go (truth_of x) refl
     where
-      go : (t : Truth) → truth_of x ≡ t → Gives ws base i k e R.And x (whether x (test (e (child1 ws i))) (is (bool false)))
-      go Yes q =
+      go : (t : Result Bool Fault) → truth_of x ≡ t → Gives ws base i k e R.And x (whether x (test (e (child1 ws i))) (is (bool false)))
+      go (Ok true) q =
           record {
             stops = λ s. never-stops (rw q at s);
             child = λ j s. went j c (rw q at s);
-            goes = λ j s. let p : Go (child1 ws i) ≡ Go j = rw q at s in let l : child1 ws i ≡ j = cc in rw (whether-by x _ _, q, l);
+            goes = λ j s. let p : Some (child1 ws i) ≡ Some j = rw q at s in let l : child1 ws i ≡ j = cc in rw (whether-by x _ _, q, l);
           }
-      go No q = record { stops = λ s. rw (whether-by x _ _, tests, q); child = λ j s. never-goes (rw q at s); goes = λ j s. never-goes (rw q at s) }
-      go (Wrong n) q = record { stops = λ s. rw (whether-by x _ _, tests, q); child = λ j s. never-goes (rw q at s); goes = λ j s. never-goes (rw q at s) }
+      go (Ok false) q = record { stops = λ s. rw (whether-by x _ _, tests, q); child = λ j s. never-goes (rw q at s); goes = λ j s. never-goes (rw q at s) }
+      go (Err n) q = record { stops = λ s. rw (whether-by x _ _, tests, q); child = λ j s. never-goes (rw q at s); goes = λ j s. never-goes (rw q at s) }
 
   or-gives : Gives ws base i k e R.Or x (whether x (is (bool true)) (test (e (child1 ws i))))
   or-gives = go (truth_of x) refl
     where
-      go : (t : Truth) → truth_of x ≡ t → Gives ws base i k e R.Or x (whether x (is (bool true)) (test (e (child1 ws i))))
-      go Yes q = record { stops = λ s. rw (whether-by x _ _, tests, q); child = λ j s. never-goes (rw q at s); goes = λ j s. never-goes (rw q at s) }
-      go No q =
+      go : (t : Result Bool Fault) → truth_of x ≡ t → Gives ws base i k e R.Or x (whether x (is (bool true)) (test (e (child1 ws i))))
+      go (Ok true) q = record { stops = λ s. rw (whether-by x _ _, tests, q); child = λ j s. never-goes (rw q at s); goes = λ j s. never-goes (rw q at s) }
+      go (Ok false) q =
           record {
             stops = λ s. never-stops (rw q at s);
             child = λ j s. went j c (rw q at s);
-            goes = λ j s. let p : Go (child1 ws i) ≡ Go j = rw q at s in let l : child1 ws i ≡ j = cc in rw (whether-by x _ _, q, l);
+            goes = λ j s. let p : Some (child1 ws i) ≡ Some j = rw q at s in let l : child1 ws i ≡ j = cc in rw (whether-by x _ _, q, l);
           }
-      go (Wrong n) q = record { stops = λ s. rw (whether-by x _ _, tests, q); child = λ j s. never-goes (rw q at s); goes = λ j s. never-goes (rw q at s) }
+      go (Err n) q = record { stops = λ s. rw (whether-by x _ _, tests, q); child = λ j s. never-goes (rw q at s); goes = λ j s. never-goes (rw q at s) }
 
   ternary-gives : Child ws base i (child2 ws i) → Gives ws base i k e R.Ternary x (whether x (e (child2 ws i)) (e (child1 ws i)))
   ternary-gives d = go (truth_of x) refl
     where
-      go : (t : Truth) → truth_of x ≡ t → Gives ws base i k e R.Ternary x (whether x (e (child2 ws i)) (e (child1 ws i)))
-      go Yes q =
+      go : (t : Result Bool Fault) → truth_of x ≡ t → Gives ws base i k e R.Ternary x (whether x (e (child2 ws i)) (e (child1 ws i)))
+      go (Ok true) q =
           record {
             stops = λ s. never-stops (rw q at s);
             child = λ j s. went j d (rw q at s);
-            goes = λ j s. let p : Go (child2 ws i) ≡ Go j = rw q at s in let l : child2 ws i ≡ j = cc in rw (whether-by x _ _, q, l);
+            goes = λ j s. let p : Some (child2 ws i) ≡ Some j = rw q at s in let l : child2 ws i ≡ j = cc in rw (whether-by x _ _, q, l);
           }
-      go No q =
+      go (Ok false) q =
           record {
             stops = λ s. never-stops (rw q at s);
             child = λ j s. went j c (rw q at s);
-            goes = λ j s. let p : Go (child1 ws i) ≡ Go j = rw q at s in let l : child1 ws i ≡ j = cc in rw (whether-by x _ _, q, l);
+            goes = λ j s. let p : Some (child1 ws i) ≡ Some j = rw q at s in let l : child1 ws i ≡ j = cc in rw (whether-by x _ _, q, l);
           }
-      go (Wrong n) q = record { stops = λ s. rw (whether-by x _ _, tests, q); child = λ j s. never-goes (rw q at s); goes = λ j s. never-goes (rw q at s) }
+      go (Err n) q = record { stops = λ s. rw (whether-by x _ _, tests, q); child = λ j s. never-goes (rw q at s); goes = λ j s. never-goes (rw q at s) }
 
 -- ---- the same at node i of an accepted table
 
 module _ (ls : List Datum) {ws : List ℕ} {base i : ℕ} (n : Node ws base i) where
   -- the answer of the tree at node j
-  abbrev answer : ℕ → Result
+  abbrev answer : ℕ → Answer
   answer j = eval_of ls (tree ws j)
 
-  abbrev Given : Rule → Result → Type 0
+  abbrev Given : Rule → Answer → Type 0
   Given r t = Gives ws base i (kind_at ws i) answer r (answer (first_of r ws i)) t
 
   binary-given : (o : Binary) → BinaryAt ws base i o → Given (rule_of (kind_at ws i)) (binary_of o (answer (child2 ws i)) (answer (child1 ws i)))
@@ -205,14 +203,14 @@ pub ref-below : {ws : List ℕ} {base i k p : ℕ} → Node ws base i → k ≡ 
 ref-below {ws} {base} {i} n e q h = rw q ((ok ws base i n).refers (sym e ∙ h))
 
 module _ (ls : List Datum) {ws : List ℕ} {base i k : ℕ} (n : Node ws base i) (e : k ≡ kind_at ws i) where
-  pub leaf-law : {p : ℕ} {r : Result} → k ≤ 5 → p ≡ payload_at ws i → r ≡ get_or (leaves ls p) k (fault 0) → r ≡ eval_of ls (tree ws i)
+  pub leaf-law : {p : ℕ} {r : Answer} → k ≤ 5 → p ≡ payload_at ws i → r ≡ get_or (leaves ls p) k (fault 0) → r ≡ eval_of ls (tree ws i)
   unfolding eval_of
   leaf-law {p} h q u =
       let v = leaf-in n (omega arith) in
       let c : kind_of k ≡ T.leaf_kind v.0 = ap kind_of e ∙ v.1.kind in
       rw (v.1.is, ← q) (u ∙ sym (leaf-code ls p k v.0 c))
 
-  module _ (g : 5 < k) {r : Rule} (f : r ≡ rule_of k) {c : ℕ} (d : ChildIs ws i (first_of r ws i) c) {x : Result} (p : x ≡ eval_of ls (tree ws c)) {m : Next} (q : m ≡ next_of r ws i x) where
+  module _ (g : 5 < k) {r : Rule} (f : r ≡ rule_of k) {c : ℕ} (d : ChildIs ws i (first_of r ws i) c) {x : Answer} (p : x ≡ eval_of ls (tree ws c)) {m : Option ℕ} (q : m ≡ next_of r ws i x) where
     rule : r ≡ rule_of (kind_at ws i)
     rule = f ∙ ap rule_of e
 
@@ -222,11 +220,11 @@ module _ (ls : List Datum) {ws : List ℕ} {base i k : ℕ} (n : Node ws base i)
     given' : Gives ws base i k (answer ls n) r x (answer ls n i)
     given' = rw (here, rule, e) (given ls n (omega arith))
 
-    pub stop-law : {s : Result} → m ≡ Stop → s ≡ alone_of r k x → s ≡ eval_of ls (tree ws i)
+    pub stop-law : {s : Answer} → m ≡ None → s ≡ alone_of r k x → s ≡ eval_of ls (tree ws i)
     stop-law h a = a ∙ given'.stops (sym q ∙ h)
 
-    module _ {j : ℕ} (h : m ≡ Go j) where
-      pub go-law : {y s : Result} → y ≡ eval_of ls (tree ws j) → s ≡ joined_of r k x y → s ≡ eval_of ls (tree ws i)
+    module _ {j : ℕ} (h : m ≡ Some j) where
+      pub go-law : {y s : Answer} → y ≡ eval_of ls (tree ws j) → s ≡ joined_of r k x y → s ≡ eval_of ls (tree ws i)
       go-law {y} b a = (rw b at a) ∙ given'.goes j (sym q ∙ h)
 
       pub go-node : Node ws base j

@@ -1,12 +1,11 @@
 -- The evaluation of a node table on lent locals: the number of the first refusal, or the meaning of the tree at the last node.
-use Rattle.std.specs.Prelude.{ℕ, zero, suc, ◌+◌, ◌-◌, min, not, List, ltb, length, take}
+use Rattle.std.specs.Prelude.{ℕ, zero, suc, ◌+◌, ◌-◌, min, not, List, ltb, length, take, None}
 use Rattle.faults.specs.Faults.{fault, ◌or_else◌}
 use Rattle.faults.specs.Numbers.{out_of_range, ill_formed}
 use Rattle.table.specs.Table.{node_count, check_of}
 use Rattle.table.specs.Tree.{tree}
-use Rattle.table.specs.declared.Dest.TheVariants.{None}
 use Rattle.value.specs.Value.{all_well, datums}
-use Rattle.value.specs.Answer.{Result, fault as faulted}
+use Rattle.value.specs.Answer.{Answer, fault as faulted}
 use Rattle.eval.specs.Eval.{eval_of}
 
 -- the locals are lent as pairs in two lists, of which the shorter counts; only the first `base` are looked at
@@ -18,11 +17,11 @@ locals_fault base ks ps =
     or_else fault (not (all_well (take base ks) (take base ps))) ill_formed
 
 -- a number other than 0 refuses
-unfoldable pub unless : ℕ → Result → Result
+unfoldable pub unless : ℕ → Answer → Answer
 unless zero r = r
 unless (suc n) r = faulted (suc n)
 
-unfoldable pub evaluate_of : List ℕ → ℕ → ℕ → List ℕ → List ℕ → Result
+unfoldable pub evaluate_of : List ℕ → ℕ → ℕ → List ℕ → List ℕ → Answer
 evaluate_of ws params locals ks ps =
     unless
     (check_of ws params locals None or_else locals_fault (params + locals) ks ps)

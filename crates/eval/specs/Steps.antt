@@ -6,7 +6,7 @@ use Rattle.faults.specs.Numbers.{ill_formed}
 use Rattle.value.specs.Value.{Datum, nil, bool, int, float, Read, well, ill, all_well}
 use Rattle.ops.specs.Ops as Ops
 use Rattle.ops.specs.Not as Not
-use Rattle.value.specs.Answer.{Result, is, fault}
+use Rattle.value.specs.Answer.{Answer, is, fault}
 use Rattle.eval.specs.declared.next.Rule.{Rule}
 use Rattle.eval.specs.declared.next.Rule.TheVariants as R
 use Rattle.eval.specs.Apply.{on, both, test}
@@ -17,16 +17,16 @@ pub record Lends (ks ps : List ℕ) : Type 0 where
   pub wells : all_well ks ps ≡ true
 
 -- a lent pair: its value, or 29, which is not met under `Lends`
-abbrev pub pair_of : Read → Result
+abbrev pub pair_of : Read → Answer
 pair_of (well v) = is v
 pair_of ill = fault ill_formed
 
 -- the leaf of each kind from 0 to 5, with its payload
-abbrev pub leaves : List Datum → ℕ → List Result
+abbrev pub leaves : List Datum → ℕ → List Answer
 leaves ls p = is nil ∷ is (bool true) ∷ is (bool false) ∷ is (int (to_z w64 p)) ∷ is (float p) ∷ is (get_or ls p nil) ∷ []
 
 -- the node's answer from the second child's, where there is one
-abbrev pub joined_of : Rule → ℕ → Result → Result → Result
+abbrev pub joined_of : Rule → ℕ → Answer → Answer → Answer
 joined_of R.Unary k a b = b
 joined_of R.Operator k a b = both (Ops.binary_of k) a b
 joined_of R.And k a b = test b
@@ -34,7 +34,7 @@ joined_of R.Or k a b = test b
 joined_of R.Ternary k a b = b
 
 -- and from the first child's alone, where there is none
-abbrev pub alone_of : Rule → ℕ → Result → Result
+abbrev pub alone_of : Rule → ℕ → Answer → Answer
 alone_of R.Unary k a = on (cond (eqb k 6) Ops.minus_of Not.not_of) a
 alone_of R.Operator k a = a
 alone_of R.And k a = test a

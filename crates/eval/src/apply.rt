@@ -9,23 +9,23 @@ ghost use Rattle.eval.specs.declared.next.Rule.TheVariants.{Unary};
 ghost use Rattle.eval.specs.Apply.{both, test};
 ghost use Rattle.eval.specs.Steps.{Lends, pair_of, leaves, alone_of, joined_of};
 
-use crate::next::{Rule, Truth, test_of};
-use value::answer::Answer;
-use value::{Lent, Value};
+use faults::Fault;
+use crate::next::{Rule, test_of};
+use value::Value;
 
 // A lent pair. `evaluate` has refused every ill-formed one with 29 before; it is 29 here too, so that this needs no such promise.
-fn pair(kind: u8, payload: u64) -> Answer
+fn pair(kind: u8, payload: u64) -> Result<Value, Fault>
     ensures { result_of result ≡ pair_of (Vs.of_pair kind payload) }
 {
     let l = value::from_pair(kind, payload);
     match l {
-        Lent::Well(v) => Answer::Is(v),
-        Lent::Ill => Answer::Fault(faults::ILL_FORMED),
+        Some(v) => Ok(v),
+        None => Err(Fault::IllFormed),
     }
 }
 
 // The value of local p.
-fn local(p: u64, kinds: &[u8], payloads: &[u64]) -> Answer
+fn local(p: u64, kinds: &[u8], payloads: &[u64]) -> Result<Value, Fault>
     requires p_in_bounds { p < length kinds.now }
     requires lends { Lends kinds.now payloads.now }
     ensures { result_of result ≡ OpsAnswer.is (get_or (datums kinds.now payloads.now) p Vs.nil) }
@@ -34,27 +34,27 @@ fn local(p: u64, kinds: &[u8], payloads: &[u64]) -> Answer
 }
 
 // A literal, or the value of a local.
-pub fn leaf(k: u64, p: u64, kinds: &[u8], payloads: &[u64]) -> Answer
+pub fn leaf(k: u64, p: u64, kinds: &[u8], payloads: &[u64]) -> Result<Value, Fault>
     requires k_bound { k ≤ 5 }
     requires p_in_bounds { k ≡ 5 → p < length kinds.now }
     requires lends { Lends kinds.now payloads.now }
     ensures { result_of result ≡ get_or (leaves (datums kinds.now payloads.now) p) k (OpsAnswer.fault 0) }
 {
     match k {
-        table::NIL => Answer::Is(Value::Nil),
-        table::TRUE => Answer::Is(Value::Bool(true)),
-        table::FALSE => Answer::Is(Value::Bool(false)),
-        table::INT => Answer::Is(Value::Int(int64::sign::signed(p))),
-        table::FLOAT => Answer::Is(value::of_pattern(p)),
+        table::NIL => Ok(Value::Nil),
+        table::TRUE => Ok(Value::Bool(true)),
+        table::FALSE => Ok(Value::Bool(false)),
+        table::INT => Ok(Value::Int(int64::sign::signed(p))),
+        table::FLOAT => Ok(value::of_pattern(p)),
         _ => local(p, kinds, payloads),
     }
 }
 
 // Minus or Not of an answer. Minus is Mul by Int -1, so `binary` has two callers here and stays a call, out of the recursion's frame.
-fn unary(k: u64, a: Answer) -> Answer
+fn unary(k: u64, a: Result<Value, Fault>) -> Result<Value, Fault>
     ensures { result_of result ≡ alone_of Unary k (result_of a) }
 {
-    let Answer::Is(x) = a else {
+    let Ok(x) = a else {
         return a;
     };
     if k == table::MINUS {
@@ -64,32 +64,32 @@ fn unary(k: u64, a: Answer) -> Answer
 }
 
 // A binary operator on two answers: left before right, so the left one's fault counts first.
-fn binary(k: u64, a: Answer, b: Answer) -> Answer
+fn binary(k: u64, a: Result<Value, Fault>, b: Result<Value, Fault>) -> Result<Value, Fault>
     ensures { result_of result ≡ both (Ops.binary_of k) (result_of a) (result_of b) }
 {
-    let Answer::Is(x) = a else {
+    let Ok(x) = a else {
         return a;
     };
-    let Answer::Is(y) = b else {
+    let Ok(y) = b else {
         return b;
     };
     ops::binary(k, x, y)
 }
 
 // An answer that has to be a Bool.
-fn tested(a: Answer) -> Answer
+fn tested(a: Result<Value, Fault>) -> Result<Value, Fault>
     ensures { result_of result ≡ test (result_of a) }
 {
     let t = test_of(a);
     match t {
-        Truth::Yes => Answer::Is(Value::Bool(true)),
-        Truth::No => Answer::Is(Value::Bool(false)),
-        Truth::Wrong(n) => Answer::Fault(n),
+        Ok(true) => Ok(Value::Bool(true)),
+        Ok(false) => Ok(Value::Bool(false)),
+        Err(n) => Err(n),
     }
 }
 
 // The answer of a node that stopped after its first child.
-pub fn alone(r: Rule, k: u64, a: Answer) -> Answer
+pub fn alone(r: Rule, k: u64, a: Result<Value, Fault>) -> Result<Value, Fault>
     ensures { result_of result ≡ alone_of r k (result_of a) }
 {
     match r {
@@ -102,7 +102,7 @@ pub fn alone(r: Rule, k: u64, a: Answer) -> Answer
 }
 
 // The answer of a node that went on.
-pub fn joined(r: Rule, k: u64, a: Answer, b: Answer) -> Answer
+pub fn joined(r: Rule, k: u64, a: Result<Value, Fault>, b: Result<Value, Fault>) -> Result<Value, Fault>
     ensures { result_of result ≡ joined_of r k (result_of a) (result_of b) }
 {
     match r {

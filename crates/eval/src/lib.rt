@@ -13,14 +13,15 @@ ghost use Rattle.eval.specs.Steps.{Lends};
 ghost use Rattle.eval.specs.Eval.{eval_of};
 ghost use Rattle.eval.specs.Evaluate.{evaluate_of};
 
+use faults::Fault;
+use value::Value;
 use crate::apply::{alone, joined, leaf};
-use crate::next::{Next, first, next_of, rule_of};
-use table::{Dest, kind_at, payload_at};
-use value::answer::Answer;
+use crate::next::{first, next_of, rule_of};
+use table::{kind_at, payload_at};
 use value::pairs::{all_well, shorter};
 
 // The answer of the tree at node i on the locals lent. Two calls of itself are all that it has, so that a level takes little of the stack.
-fn eval_node(nodes: &[u64], kinds: &[u8], payloads: &[u64], i: usize) -> Answer
+fn eval_node(nodes: &[u64], kinds: &[u8], payloads: &[u64], i: usize) -> Result<Value, Fault>
     requires node { Node nodes.now (length kinds.now) i }
     requires lends { Lends kinds.now payloads.now }
     ensures { result_of result ≡ eval_of (datums kinds.now payloads.now) (tree nodes.now i) }
@@ -32,7 +33,7 @@ fn eval_node(nodes: &[u64], kinds: &[u8], payloads: &[u64], i: usize) -> Answer
     let r = rule_of(k);
     let a = eval_node(nodes, kinds, payloads, first(nodes, i, r));
     let n = next_of(nodes, i, r, a);
-    let Next::Go(j) = n else {
+    let Some(j) = n else {
         return alone(r, k, a);
     };
     let b = eval_node(nodes, kinds, payloads, j);
@@ -41,21 +42,21 @@ fn eval_node(nodes: &[u64], kinds: &[u8], payloads: &[u64], i: usize) -> Answer
 
 // The answer of a node table on the values of its parameters and locals, which are lent as pairs: a value, or the number of the
 // first refusal or fault. It writes nothing.
-pub fn evaluate(nodes: &[u64], params: u64, locals: u64, kinds: &[u8], payloads: &[u64]) -> Answer
+pub fn evaluate(nodes: &[u64], params: u64, locals: u64, kinds: &[u8], payloads: &[u64]) -> Result<Value, Fault>
     ensures { result_of result ≡ evaluate_of nodes.now params locals kinds.now payloads.now }
 {
-    let n = table::check::check(nodes, params, locals, Dest::None);
+    let n = table::check::check(nodes, params, locals, None);
     if n != faults::NONE {
-        return Answer::Fault(n);
+        return Err(n);
     }
     let base = (params + locals) as usize;
     if shorter(kinds.len(), payloads.len()) < base {
-        return Answer::Fault(faults::OUT_OF_RANGE);
+        return Err(Fault::OutOfRange);
     }
     let ks = &kinds[..base];
     let ps = &payloads[..base];
     if all_well(ks, ps) {
         return eval_node(nodes, ks, ps, nodes.len() / 4 - 1);
     }
-    Answer::Fault(faults::ILL_FORMED)
+    Err(Fault::IllFormed)
 }

@@ -5,17 +5,9 @@ ghost use Rattle.value.specs.Value as Vs;
 ghost use Rattle.value.specs.Answer.{is, result_of};
 ghost use Rattle.eval.specs.Next.{Ruled, truth_of, rule_of, first_of, chosen_of, after_of, next_of};
 
+use faults::Fault;
 use table::{child_1, child_2, child_3};
 use value::Value;
-use value::answer::Answer;
-
-// What a test came to: a Bool, or the number of a fault.
-#[derive(Clone, Copy)]
-pub enum Truth {
-    Yes,
-    No,
-    Wrong(u8),
-}
 
 // What is to be done at a node with children.
 #[derive(Clone, Copy)]
@@ -27,33 +19,26 @@ pub enum Rule {
     Ternary,
 }
 
-// What follows on the first child's answer: nothing more is evaluated, or a second child.
-#[derive(Clone, Copy)]
-pub enum Next {
-    Stop,
-    Go(usize),
-}
-
 // A value as a test: only a Bool is one.
-fn truth_of(v: Value) -> Truth
+fn truth_of(v: Value) -> Result<bool, Fault>
     ensures { result ≡ truth_of (is (Vs.meaning v)) }
 {
     match v {
-        Value::Nil => Truth::Wrong(faults::WRONG_KIND),
-        Value::Bool(t) => { if t { Truth::Yes } else { Truth::No } }
-        Value::Int(_) => Truth::Wrong(faults::WRONG_KIND),
-        Value::Float(_) => Truth::Wrong(faults::WRONG_KIND),
-        Value::Nan(_) => Truth::Wrong(faults::WRONG_KIND),
+        Value::Nil => Err(Fault::WrongKind),
+        Value::Bool(t) => { if t { Ok(true) } else { Ok(false) } }
+        Value::Int(_) => Err(Fault::WrongKind),
+        Value::Float(_) => Err(Fault::WrongKind),
+        Value::Nan(_) => Err(Fault::WrongKind),
     }
 }
 
 // An answer as a test.
-pub fn test_of(a: Answer) -> Truth
+pub fn test_of(a: Result<Value, Fault>) -> Result<bool, Fault>
     ensures { result ≡ truth_of (result_of a) }
 {
     match a {
-        Answer::Is(v) => truth_of(v),
-        Answer::Fault(n) => Truth::Wrong(n),
+        Ok(v) => truth_of(v),
+        Err(n) => Err(n),
     }
 }
 
@@ -91,40 +76,40 @@ pub fn first(nodes: &[u64], i: usize, r: Rule) -> usize
 }
 
 // What follows on a test: the one or the other, and nothing where it is none.
-fn chosen(t: Truth, yes: Next, no: Next) -> Next
+fn chosen(t: Result<bool, Fault>, yes: Option<usize>, no: Option<usize>) -> Option<usize>
     ensures { result ≡ chosen_of t yes no }
 {
     match t {
-        Truth::Yes => yes,
-        Truth::No => no,
-        Truth::Wrong(_) => Next::Stop,
+        Ok(true) => yes,
+        Ok(false) => no,
+        Err(_) => None,
     }
 }
 
 // What follows on an operator's left side: nothing where it has a fault.
-fn after(a: Answer, right: Next) -> Next
+fn after(a: Result<Value, Fault>, right: Option<usize>) -> Option<usize>
     ensures { result ≡ after_of (result_of a) right }
 {
     match a {
-        Answer::Is(_) => right,
-        Answer::Fault(_) => Next::Stop,
+        Ok(_) => right,
+        Err(_) => None,
     }
 }
 
 // What follows on the first child's answer: And, Or and Ternary skip what they need not evaluate, and a fault ends all.
-pub fn next_of(nodes: &[u64], i: usize, r: Rule, a: Answer) -> Next
+pub fn next_of(nodes: &[u64], i: usize, r: Rule, a: Result<Value, Fault>) -> Option<usize>
     requires { Ruled nodes.now i r }
     ensures { result ≡ next_of r nodes.now i (result_of a) }
 {
     match r {
-        Rule::Unary => Next::Stop,
-        Rule::Operator => after(a, Next::Go(child_1(nodes, i))),
-        Rule::And => chosen(test_of(a), Next::Go(child_1(nodes, i)), Next::Stop),
-        Rule::Or => chosen(test_of(a), Next::Stop, Next::Go(child_1(nodes, i))),
+        Rule::Unary => None,
+        Rule::Operator => after(a, Some(child_1(nodes, i))),
+        Rule::And => chosen(test_of(a), Some(child_1(nodes, i)), None),
+        Rule::Or => chosen(test_of(a), None, Some(child_1(nodes, i))),
         Rule::Ternary => chosen(
             test_of(a),
-            Next::Go(child_2(nodes, i)),
-            Next::Go(child_1(nodes, i)),
+            Some(child_2(nodes, i)),
+            Some(child_1(nodes, i)),
         ),
     }
 }

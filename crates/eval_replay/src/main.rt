@@ -1,32 +1,32 @@
 // Replays node tables with their locals, and writes what the check and the evaluator answer; tools/oracle/README.md has the layout.
 #![tactic(auto)]
 
+use faults::Fault;
+use value::Value;
 use replay_io::within;
 use std::io;
 use std::io::{Read, Write};
-use table::Dest;
-use value::answer::Answer;
 
 // Room for the largest record.
 const TABLE_WORDS: usize = 16388;
 
 const LOCALS: usize = 16;
 
-fn dest_of(d: u64) -> Dest {
+fn dest_of(d: u64) -> Option<u64> {
     if d == 0 {
-        return Dest::None;
+        return None;
     }
-    Dest::Reg(d - 1)
+    Some(d - 1)
 }
 
-fn write_answer<W: Write>(output: &mut W, a: Answer) -> io::Result<()> {
+fn write_answer<W: Write>(output: &mut W, a: Result<Value, Fault>) -> io::Result<()> {
     match a {
-        Answer::Is(v) => {
+        Ok(v) => {
             replay_io::write_word(output, 0)?;
             replay_io::write_word(output, value::kind_of(v) as u64)?;
             replay_io::write_word(output, value::payload_of(v))
         }
-        Answer::Fault(n) => {
+        Err(n) => {
             replay_io::write_word(output, n as u64)?;
             replay_io::write_word(output, 0)?;
             replay_io::write_word(output, 0)

@@ -1,11 +1,9 @@
 -- The arithmetic of IEEE 754 binary64 over whole numbers of 2^-1074. A result is a pattern: the one nearest to the exact result, a tie to the even pattern.
 -- That `rounded` is the nearest one, and the only one, is proved in `proofs/Nearest.antt`.
-use Rattle.std.specs.Prelude.{ℕ, zero, suc, ◌+◌, ◌-◌, ◌*◌, ◌/◌, ◌%◌, ◌^◌, ◌≤◌, ◌<◌, min, ◌≡◌, Bool, true, false, not, ◌&&◌, cond, leb, ltb, eqb, ℤ, pos, negsuc, nat_abs}
+use Rattle.std.specs.Prelude.{ℕ, zero, suc, ◌+◌, ◌-◌, ◌*◌, ◌/◌, ◌%◌, ◌^◌, ◌≤◌, ◌<◌, min, ◌≡◌, Bool, true, false, not, ◌&&◌, cond, leb, ltb, eqb, ℤ, pos, negsuc, nat_abs, Option, Some, None}
 use Rattle.std.specs.Bool.{beq}
 use Rattle.float.specs.declared.Op.{Op}
 use Rattle.float.specs.declared.Op.TheVariants.{Add, Sub, Mul, Div}
-use Rattle.float.specs.declared.Whole.{Whole}
-use Rattle.float.specs.declared.Whole.TheVariants.{Is, Wide}
 use Rattle.float.specs.Bits.{Real, nan, inf, fin, infinity, quiet, units}
 
 -- ---- rounding
@@ -111,6 +109,6 @@ of_int (pos n) = with_sign_bit false (rounded (n * 2 ^ 1074) 1)
 of_int (negsuc n) = with_sign_bit true (rounded (suc n * 2 ^ 1074) 1)
 
 -- the same where n is one that is exact
-unfoldable pub whole : ℤ → Whole
+unfoldable pub whole : ℤ → Option ℕ
 unfolding of_int
-whole n = cond (leb (nat_abs n) (2 ^ 53)) (Is (of_int n)) Wide
+whole n = cond (leb (nat_abs n) (2 ^ 53)) (Some (of_int n)) None

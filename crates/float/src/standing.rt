@@ -7,7 +7,6 @@ ghost use Rattle.int64.specs.Order.{holds};
 ghost use Rattle.float.specs.Standing.{standing};
 ghost use Rattle.float.specs.Places.{is_far, whole_part, place_of, two52, two63};
 
-use crate::Whole;
 use int64::order::Cmp;
 
 // 2^63 in a pattern is the sign, 2^52 the least bit of the exponent.
@@ -19,15 +18,6 @@ const EXPONENT: u64 = 0x0010_0000_0000_0000;
 const TWO_52: u64 = 0x4330_0000_0000_0000;
 
 const TWO_63: u64 = 0x43e0_0000_0000_0000;
-
-// Where a Float stands among the Ints beyond 2^53.
-#[derive(Clone, Copy)]
-pub enum Place {
-    // past them all, or nowhere: it stands to each as it stands to 0
-    Far,
-    // it stands to each as the Int with this pattern does
-    Like(u64),
-}
 
 // Whether the Float of sign s whose pattern is r but for the sign is past every Int. -2^63 is the one Int with a size of 2^63.
 fn is_far(s: bool, r: u64) -> bool
@@ -47,18 +37,18 @@ fn whole_part(r: u64) -> u64
     (EXPONENT + r % EXPONENT) << (r / EXPONENT - 1075)
 }
 
-fn place_of(q: u64) -> Place
+fn place_of(q: u64) -> Option<u64>
     ensures { result ≡ place_of q }
 {
     let s = q >= SIGN;
     let r = q % SIGN;
     if is_far(s, r) {
-        return Place::Far;
+        return None;
     }
     if r < TWO_52 {
-        return Place::Like(0);
+        return Some(0);
     }
-    Place::Like(int64::sign::with_sign(s, whole_part(r)))
+    Some(int64::sign::with_sign(s, whole_part(r)))
 }
 
 // An Int beyond 2^53 with a Float.
@@ -68,8 +58,8 @@ fn wide_stands(op: Cmp, p: u64, q: u64) -> bool
 {
     let a = place_of(q);
     match a {
-        Place::Far => crate::order::compare(op, 0, q),
-        Place::Like(z) => int64::order::compare(op, p, z),
+        None => crate::order::compare(op, 0, q),
+        Some(z) => int64::order::compare(op, p, z),
     }
 }
 
@@ -79,7 +69,7 @@ pub fn stands(op: Cmp, p: u64, q: u64) -> bool
 {
     let w = crate::from_int(p);
     match w {
-        Whole::Is(n) => crate::order::compare(op, n, q),
-        Whole::Wide => wide_stands(op, p, q),
+        Some(n) => crate::order::compare(op, n, q),
+        None => wide_stands(op, p, q),
     }
 }

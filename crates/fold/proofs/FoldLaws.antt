@@ -1,4 +1,6 @@
 -- What an operator takes in of a node: the laws of its folds, and of the instruction of two registers.
+use Rattle.std.specs.Prelude.{Option, Some, None}
+use Rattle.insns.specs.declared.op.Imm16.{Imm16}
 use mathlib.Core.Path.{◌≡◌, refl, sym, ap, ◌∙◌}
 use mathlib.Core.Bool.{Bool, true, false}
 use mathlib.Core.List.{List}
@@ -22,16 +24,6 @@ use Rattle.insns.specs.declared.op.Shift.{Shift}
 use Rattle.insns.specs.declared.op.Shift.TheVariants as Shift
 use Rattle.fold.specs.declared.Tail.{Tail}
 use Rattle.fold.specs.declared.Tail.TheVariants as Tail
-use Rattle.fold.specs.declared.Fold.{Fold}
-use Rattle.fold.specs.declared.Fold.TheVariants.{Into, General}
-use Rattle.fold.specs.declared.literal.Lit.{Lit}
-use Rattle.fold.specs.declared.literal.Lit.TheVariants.{Is, Not}
-use Rattle.fold.specs.declared.literal.Imm.{Imm}
-use Rattle.fold.specs.declared.literal.Imm.TheVariants.{Imm16}
-use Rattle.fold.specs.declared.literal.Amount.{Amount}
-use Rattle.fold.specs.declared.literal.Amount.TheVariants.{By, NoShift}
-use Rattle.fold.specs.declared.literal.Run.{Run}
-use Rattle.fold.specs.declared.literal.Run.TheVariants.{Ones}
 use Rattle.fold.specs.Literal.{bit_run, const_of, imm_of, amount_of, amount_lit}
 use Rattle.fold.specs.Fold.{shift_by, shifted_by, mask_fold, shift_fold, imm_fold, fold_by, fold_lit, minus_one, takes_shift}
 use Rattle.fold.specs.Nodes.{Operator, Operand, op_fold, left_of, operand_of}
@@ -72,7 +64,7 @@ pub ruleset asks = (inner-at, inner-child, operator-1, operator-2, operator-3, o
 -- ---- a right shift of a literal
 
 module _ {ws : List ℕ} {i : ℕ} (h : Inner ws i 0) {k : ℕ} (e : k ≡ kind_at ws i) where
-  shift-by : (o : Binary) (b : Tree) → k ≡ binary_code o → (k ≡ 12 → ⊥) → NoShift ≡ shift_by o b
+  shift-by : (o : Binary) (b : Tree) → k ≡ binary_code o → (k ≡ 12 → ⊥) → None ≡ shift_by o b
   unfolding shift_by
   shift-by (arith bit_and) b q g = refl
   shift-by (arith bit_or) b q g = refl
@@ -88,11 +80,11 @@ module _ {ws : List ℕ} {i : ℕ} (h : Inner ws i 0) {k : ℕ} (e : k ≡ kind_
   shift-by and b q g = refl
   shift-by or b q g = refl
 
-  pub shift-other : (k ≡ 12 → ⊥) → NoShift ≡ shifted_by (tree ws i)
+  pub shift-other : (k ≡ 12 → ⊥) → None ≡ shifted_by (tree ws i)
   unfolding shifted_by
   shift-other g = go _ (view h.node)
     where
-      go : (n : ℕ) → View ws h.base i n → NoShift ≡ shifted_by (tree ws i)
+      go : (n : ℕ) → View ws h.base i n → None ≡ shifted_by (tree ws i)
       go n (is_leaf f v) = rw v.is
       go n (is-unary o v) = rw v.is
       go n (is-binary o v) = rw v.is (shift-by o _ (e ∙ binary-code (kind_at ws i) o v.kind) g)
@@ -105,38 +97,38 @@ module _ {ws : List ℕ} {i : ℕ} (h : Inner ws i 0) {k : ℕ} (e : k ≡ kind_
       let v = binary-at ws h.base i h.node (arith rshift) (rw twelve) in
       rw v.is
 
-  module _ {j : ℕ} {l : Lit} (g : k ≡ 12) (d : ChildIs ws i (child1 ws i) j) (c : l ≡ const_of (tree ws j)) where
+  module _ {j : ℕ} {l : Option ℤ} (g : k ≡ 12) (d : ChildIs ws i (child1 ws i) j) (c : l ≡ const_of (tree ws j)) where
     shift_from : amount_lit l ≡ shifted_by (tree ws i)
     shift_from = let p = d.is in ap amount_lit c ∙ sym (shift-at g ∙ ap (λ (x : ℕ). amount_lit (const_of (tree ws x))) (sym p))
 
-    pub shift_none : l ≡ Not → NoShift ≡ shifted_by (tree ws i)
+    pub shift_none : l ≡ None → None ≡ shifted_by (tree ws i)
     shift_none n = sym (ap amount_lit n) ∙ shift_from
 
-    pub shift-lit : {z : ℤ} {r : Amount} → l ≡ Is z → mag z < 9223372036854775808 → r ≡ amount_of (to_z w64 (of_z w64 z)) → r ≡ shifted_by (tree ws i)
+    pub shift-lit : {z : ℤ} {r : Option ℕ} → l ≡ Some z → mag z < 9223372036854775808 → r ≡ amount_of (to_z w64 (of_z w64 z)) → r ≡ shifted_by (tree ws i)
     shift-lit {z} n f q = q ∙ ap amount_of (held z f) ∙ sym (ap amount_lit n) ∙ shift_from
 
 pub ruleset shifts = (shift-other, shift_none, shift-lit)
 
 -- a node that is shifted by a literal is a right shift
-shifted-kind : {ws : List ℕ} {base i n : ℕ} → Node ws base i → shifted_by (tree ws i) ≡ By n → kind_at ws i ≡ 12
+shifted-kind : {ws : List ℕ} {base i n : ℕ} → Node ws base i → shifted_by (tree ws i) ≡ Some n → kind_at ws i ≡ 12
 shifted-kind {ws} {base} {i} {n} h e = go (eqb (kind_at ws i) 12) refl
   where
     go : (t : Bool) → eqb (kind_at ws i) 12 ≡ t → kind_at ws i ≡ 12
     go true q = eqb-true (kind_at ws i) 12 q
-    go false q = never (let p : NoShift ≡ By n = shift-other (record { base = base; node = h; kind = omega numbers }) refl (eqb-false (kind_at ws i) 12 q) ∙ e in cc)
+    go false q = never (let p : None ≡ Some n = shift-other (record { base = base; node = h; kind = omega numbers }) refl (eqb-false (kind_at ws i) 12 q) ∙ e in cc)
 
 -- ---- folds
 
-pub mask-plain : {s : Amount} {r : Run} {lo len : ℕ} → r ≡ Ones lo len → s ≡ NoShift → Into (Tail.Mask lo len) ≡ mask_fold s r
+pub mask-plain : {s : Option ℕ} {r : Option (ℕ × ℕ)} {lo len : ℕ} → r ≡ Some (lo, len) → s ≡ None → Some (Tail.Mask lo len) ≡ mask_fold s r
 mask-plain e f = rw (e, f)
 
-pub mask-shift : {s : Amount} {r : Run} {k lo len : ℕ} → r ≡ Ones lo len → s ≡ By k → Into (Tail.ShiftMask k lo len) ≡ mask_fold s r
+pub mask-shift : {s : Option ℕ} {r : Option (ℕ × ℕ)} {k lo len : ℕ} → r ≡ Some (lo, len) → s ≡ Some k → Some (Tail.ShiftMask k lo len) ≡ mask_fold s r
 mask-shift e f = rw (e, f)
 
-pub shift-into : {o : Shift} {b : Amount} {k : ℕ} → b ≡ By k → Into (Tail.Shift o k) ≡ shift_fold o b
+pub shift-into : {o : Shift} {b : Option ℕ} {k : ℕ} → b ≡ Some k → Some (Tail.Shift o k) ≡ shift_fold o b
 shift-into e = rw e
 
-pub imm-into : {o : ImmArith} {b : Imm} {n : Imm16s} → b ≡ Imm16 n → Into (Tail.Imm o n) ≡ imm_fold o b
+pub imm-into : {o : ImmArith} {b : Option Imm16} {n : Imm16s} → b ≡ Some n → Some (Tail.Imm o n) ≡ imm_fold o b
 imm-into e = rw e
 
 pub ruleset intos = (mask-plain, mask-shift, shift-into, imm-into)
@@ -151,14 +143,14 @@ imm_code Minus = 14
 imm_code Times = 15
 
 -- the fixnum z on the right
-module _ {k : ℕ} (z : ℤ) (f : mag z < 9223372036854775808) {r : Fold} where
-  pub fold-mask : {a : Amount} {b : Run} (s : Amount) → k ≡ 8 → r ≡ mask_fold a b → a ≡ s → b ≡ bit_run (to_z w64 (of_z w64 z)) → (o : Arith) → kind_of k ≡ binary_kind (arith o) → r ≡ fold_by o s z
+module _ {k : ℕ} (z : ℤ) (f : mag z < 9223372036854775808) {r : Option Tail} where
+  pub fold-mask : {a : Option ℕ} {b : Option (ℕ × ℕ)} (s : Option ℕ) → k ≡ 8 → r ≡ mask_fold a b → a ≡ s → b ≡ bit_run (to_z w64 (of_z w64 z)) → (o : Arith) → kind_of k ≡ binary_kind (arith o) → r ≡ fold_by o s z
   unfolding fold_by
   fold-mask s h q c d o e =
       let p = arith-known 8 o h e in
       rw (← p, ← c) (q ∙ ap (mask_fold _) (d ∙ ap bit_run (held z f)))
 
-  pub fold-shift : (sh : Shift) {b : Amount} (s : Amount) → r ≡ shift_fold sh b → k ≡ shift_code sh → b ≡ amount_of (to_z w64 (of_z w64 z)) → (o : Arith) → kind_of k ≡ binary_kind (arith o) → r ≡ fold_by o s z
+  pub fold-shift : (sh : Shift) {b : Option ℕ} (s : Option ℕ) → r ≡ shift_fold sh b → k ≡ shift_code sh → b ≡ amount_of (to_z w64 (of_z w64 z)) → (o : Arith) → kind_of k ≡ binary_kind (arith o) → r ≡ fold_by o s z
   unfolding fold_by
   fold-shift sh s q h d o e = q ∙ ap (shift_fold sh) (d ∙ ap amount_of (held z f)) ∙ go sh h
     where
@@ -166,7 +158,7 @@ module _ {k : ℕ} (z : ℤ) (f : mag z < 9223372036854775808) {r : Fold} where
       go Shift.Left h = ap (λ (x : Arith). fold_by x s z) (arith-known 11 o h e)
       go Shift.Right h = ap (λ (x : Arith). fold_by x s z) (arith-known 12 o h e)
 
-  pub fold_imm : (a : ImmArith) {b : Imm} (s : Amount) → r ≡ imm_fold a b → k ≡ imm_code a → b ≡ imm_of (to_z w64 (of_z w64 z)) → (o : Arith) → kind_of k ≡ binary_kind (arith o) → r ≡ fold_by o s z
+  pub fold_imm : (a : ImmArith) {b : Option Imm16} (s : Option ℕ) → r ≡ imm_fold a b → k ≡ imm_code a → b ≡ imm_of (to_z w64 (of_z w64 z)) → (o : Arith) → kind_of k ≡ binary_kind (arith o) → r ≡ fold_by o s z
   unfolding fold_by
   fold_imm a s q h d o e = q ∙ ap (imm_fold a) (d ∙ ap imm_of (held z f)) ∙ go a h
     where
@@ -175,11 +167,11 @@ module _ {k : ℕ} (z : ℤ) (f : mag z < 9223372036854775808) {r : Fold} where
       go Minus h = ap (λ (x : Arith). fold_by x s z) (arith-known 14 o h e)
       go Times h = ap (λ (x : Arith). fold_by x s z) (arith-known 15 o h e)
 
-pub fold-rest : {k : ℕ} (s : Amount) (z : ℤ) → (k ≡ 8 → ⊥) → (k ≡ 11 → ⊥) → (k ≡ 12 → ⊥) → (k ≡ 13 → ⊥) → (k ≡ 14 → ⊥) → (k ≡ 15 → ⊥) → (o : Arith) → kind_of k ≡ binary_kind (arith o) → General ≡ fold_by o s z
+pub fold-rest : {k : ℕ} (s : Option ℕ) (z : ℤ) → (k ≡ 8 → ⊥) → (k ≡ 11 → ⊥) → (k ≡ 12 → ⊥) → (k ≡ 13 → ⊥) → (k ≡ 14 → ⊥) → (k ≡ 15 → ⊥) → (o : Arith) → kind_of k ≡ binary_kind (arith o) → None ≡ fold_by o s z
 unfolding fold_by
 fold-rest {k} s z n8 n11 n12 n13 n14 n15 o e = go o (binary-code k (arith o) e)
   where
-    go : (o : Arith) → k ≡ arith_code o → General ≡ fold_by o s z
+    go : (o : Arith) → k ≡ arith_code o → None ≡ fold_by o s z
     go bit_and h = absurd (n8 h)
     go bit_or h = refl
     go bit_xor h = refl
@@ -207,21 +199,21 @@ module _ {ws : List ℕ} {i : ℕ} (h : Operator ws i) where
       go (or, v) = absurd (let p = binary-code (kind_at ws i) or v.kind in let u = h.high in omega numbers)
 
   module _ {k : ℕ} (e : k ≡ kind_at ws i) where
-    pub fold-minus : k ≡ 6 → Into minus_one ≡ op_fold (tree ws i)
+    pub fold-minus : k ≡ 6 → Some minus_one ≡ op_fold (tree ws i)
     unfolding op_fold kind_of
     fold-minus g =
         let six : kind_at ws i ≡ 6 = sym e ∙ g in
         let v = unary-at ws h.base i h.node minus (rw six) in
         rw v.is
 
-    pub fold-not : k ≡ 7 → Into Tail.Not ≡ op_fold (tree ws i)
+    pub fold-not : k ≡ 7 → Some Tail.Not ≡ op_fold (tree ws i)
     unfolding op_fold kind_of
     fold-not g =
         let seven : kind_at ws i ≡ 7 = sym e ∙ g in
         let v = unary-at ws h.base i h.node not' (rw seven) in
         rw v.is
 
-    module _ (n6 : k ≡ 6 → ⊥) (n7 : k ≡ 7 → ⊥) {j : ℕ} {l : Lit} (d : ChildIs ws i (child1 ws i) j) (c : l ≡ const_of (tree ws j)) where
+    module _ (n6 : k ≡ 6 → ⊥) (n7 : k ≡ 7 → ⊥) {j : ℕ} {l : Option ℤ} (d : ChildIs ws i (child1 ws i) j) (c : l ≡ const_of (tree ws j)) where
       past : 7 < kind_at ws i
       past = (operator-2 h e n6 n7).kind
 
@@ -233,10 +225,10 @@ module _ {ws : List ℕ} {i : ℕ} (h : Operator ws i) where
           let q : l ≡ const_of (tree ws (child1 ws i)) = rw p at c in
           (v.0, v.1.kind, ap op_fold v.1.is ∙ ap (fold_lit v.0 (shifted_by (tree ws (child2 ws i)))) (sym q))
 
-      pub fold-none : l ≡ Not → General ≡ op_fold (tree ws i)
+      pub fold-none : l ≡ None → None ≡ op_fold (tree ws i)
       fold-none n = let v = fold-from in sym (v.2 ∙ ap (fold_lit v.0 _) n)
 
-      pub fold-lit : {z : ℤ} {a : ℕ} {r : Fold} → l ≡ Is z → mag z < 9223372036854775808 → ChildIs ws i (child2 ws i) a
+      pub fold-lit : {z : ℤ} {a : ℕ} {r : Option Tail} → l ≡ Some z → mag z < 9223372036854775808 → ChildIs ws i (child2 ws i) a
           → ((o : Arith) → kind_of k ≡ binary_kind (arith o) → r ≡ fold_by o (shifted_by (tree ws a)) (to_z w64 (of_z w64 z))) → r ≡ op_fold (tree ws i)
       fold-lit {z} {a} {r} n f b q =
           let v = fold-from in
@@ -249,11 +241,11 @@ pub ruleset operators = (fold-minus, fold-not, fold-none, fold-lit)
 
 -- ---- the operand that a fold leaves
 
-plain-tail : {tail u : Tail} {X : Type 0} → Into u ≡ Into tail → takes_shift u ≡ false → takes_shift tail ≡ true → X
+plain-tail : {tail u : Tail} {X : Type 0} → Some u ≡ Some tail → takes_shift u ≡ false → takes_shift tail ≡ true → X
 plain-tail {tail} {u} e f t = never (let p : tail ≡ u = cc in let q : takes_shift u ≡ true = rw p at t in cc)
 
 -- only a mask takes in a shift, and then there is one
-fold-takes : {o : Arith} {s : Amount} {l : Lit} {f : Fold} {tail : Tail} → Folding o s l f → f ≡ Into tail → takes_shift tail ≡ true → (n : ℕ) × (s ≡ By n)
+fold-takes : {o : Arith} {s : Option ℕ} {l : Option ℤ} {f : Option Tail} {tail : Tail} → Folding o s l f → f ≡ Some tail → takes_shift tail ≡ true → (n : ℕ) × (s ≡ Some n)
 fold-takes general e t = never (cc)
 fold-takes (mask r) e t = plain-tail e refl t
 fold-takes (shift-mask {k} r) e t = (k, refl)
@@ -263,7 +255,7 @@ fold-takes (plus r) e t = plain-tail e refl t
 fold-takes (less r) e t = plain-tail e refl t
 fold-takes (times r) e t = plain-tail e refl t
 
-module _ {ws : List ℕ} {i : ℕ} (h : Operator ws i) {tail : Tail} (into : op_fold (tree ws i) ≡ Into tail) {k : ℕ} (e : k ≡ kind_at ws i) where
+module _ {ws : List ℕ} {i : ℕ} (h : Operator ws i) {tail : Tail} (into : op_fold (tree ws i) ≡ Some tail) {k : ℕ} (e : k ≡ kind_at ws i) where
   pub operand-one : {j : ℕ} → k ≤ 7 → ChildIs ws i (child1 ws i) j → Operand ws i tail j
   unfolding op_fold
   operand-one {j} l d =

@@ -1,4 +1,6 @@
 -- What a branch takes in of a node: the laws of comparisons and of their literals.
+use Rattle.std.specs.Prelude.{Option, Some, None}
+use Rattle.insns.specs.declared.op.Imm16.{Imm16}
 use mathlib.Core.Path.{◌≡◌, refl, sym, ap, ◌∙◌}
 use mathlib.Core.Bool.{Bool}
 use mathlib.Core.List.{List}
@@ -13,11 +15,8 @@ use Rattle.table.proofs.Arities.{binary-code, arith-codes, cmp-codes}
 use Rattle.table.proofs.Trees.{View, is_leaf, is-unary, is-binary, is-ternary, view, BinaryAt, binary-in}
 use Rattle.insns.specs.declared.op.Cmp.{Cmp as JumpCmp}
 use Rattle.insns.specs.declared.op.Imm16.{Imm16 as Imm16s}
-use Rattle.fold.specs.declared.literal.Imm.{Imm}
-use Rattle.fold.specs.declared.literal.Imm.TheVariants.{Imm16, NoImm}
 use Rattle.fold.specs.declared.How.{How}
 use Rattle.fold.specs.declared.How.TheVariants as How
-use Rattle.fold.specs.declared.Test.TheVariants as T
 use Rattle.fold.specs.Literal.{as_imm16}
 use Rattle.fold.specs.Opcodes.{mirror, branch_of}
 use Rattle.fold.specs.Fold.{one, compare_pick}
@@ -44,8 +43,8 @@ module _ {ws : List ℕ} {i : ℕ} (h : Comparison ws i) where
       go (and, v) = absurd (let p = binary-code (kind_at ws i) and v.kind in let u = h.high in omega numbers)
       go (or, v) = absurd (let p = binary-code (kind_at ws i) or v.kind in let u = h.high in omega numbers)
 
-  module _ {k : ℕ} (e : k ≡ kind_at ws i) (sense : Bool) {a b : ℕ} (da : ChildIs ws i (child2 ws i) a) (db : ChildIs ws i (child1 ws i) b) {right : Imm} (er : right ≡ as_imm16 (tree ws b)) where
-    picked : (left : Imm) → left ≡ as_imm16 (tree ws a) → (c : Cmp) × (kind_of k ≡ binary_kind (cmp c)) × (pick_of (tree ws i) sense ≡ compare_pick c (tree ws a) (tree ws b) left right sense)
+  module _ {k : ℕ} (e : k ≡ kind_at ws i) (sense : Bool) {a b : ℕ} (da : ChildIs ws i (child2 ws i) a) (db : ChildIs ws i (child1 ws i) b) {right : Option Imm16} (er : right ≡ as_imm16 (tree ws b)) where
+    picked : (left : Option Imm16) → left ≡ as_imm16 (tree ws a) → (c : Cmp) × (kind_of k ≡ binary_kind (cmp c)) × (pick_of (tree ws i) sense ≡ compare_pick c (tree ws a) (tree ws b) left right sense)
     unfolding pick_of
     picked left el =
         let v = cmp-in in
@@ -53,26 +52,26 @@ module _ {ws : List ℕ} {i : ℕ} (h : Comparison ws i) where
         let q = db.is in
         (v.0, rw e v.1.kind, rw (v.1.is, el, er, p, q))
 
-    pub compare-right : {r : JumpCmp} {n : Imm16s} → right ≡ Imm16 n → ((c : Cmp) → kind_of k ≡ binary_kind (cmp c) → r ≡ branch_of c sense)
-        → TestIs ws i (T.One a (How.Imm r n)) (pick_of (tree ws i) sense)
+    pub compare-right : {r : JumpCmp} {n : Imm16s} → right ≡ Some n → ((c : Cmp) → kind_of k ≡ binary_kind (cmp c) → r ≡ branch_of c sense)
+        → TestIs ws i (Some (a, (How.Imm r n))) (pick_of (tree ws i) sense)
     compare-right {n = n} g f =
         let v = picked (as_imm16 (tree ws a)) refl in
         let w = f v.0 v.1 in
-        (v.2 ∙ ap (λ (x : Imm). compare_pick v.0 (tree ws a) (tree ws b) (as_imm16 (tree ws a)) x sense) g ∙ ap (λ (x : JumpCmp). one (tree ws a) (How.Imm x n)) (sym w), inl da.of)
+        (v.2 ∙ ap (λ (x : Option Imm16). compare_pick v.0 (tree ws a) (tree ws b) (as_imm16 (tree ws a)) x sense) g ∙ ap (λ (x : JumpCmp). one (tree ws a) (How.Imm x n)) (sym w), inl da.of)
 
-    module _ {left : Imm} (el : left ≡ as_imm16 (tree ws a)) (g : right ≡ NoImm) where
-      pair : (c : Cmp) → compare_pick c (tree ws a) (tree ws b) left right sense ≡ compare_pick c (tree ws a) (tree ws b) left NoImm sense
-      pair c = ap (λ (x : Imm). compare_pick c (tree ws a) (tree ws b) left x sense) g
+    module _ {left : Option Imm16} (el : left ≡ as_imm16 (tree ws a)) (g : right ≡ None) where
+      pair : (c : Cmp) → compare_pick c (tree ws a) (tree ws b) left right sense ≡ compare_pick c (tree ws a) (tree ws b) left None sense
+      pair c = ap (λ (x : Option Imm16). compare_pick c (tree ws a) (tree ws b) left x sense) g
 
-      pub compare-left : {r : JumpCmp} {n : Imm16s} → left ≡ Imm16 n → ((c : Cmp) → kind_of k ≡ binary_kind (cmp c) → r ≡ branch_of (mirror c) sense)
-          → TestIs ws i (T.One b (How.Imm r n)) (pick_of (tree ws i) sense)
+      pub compare-left : {r : JumpCmp} {n : Imm16s} → left ≡ Some n → ((c : Cmp) → kind_of k ≡ binary_kind (cmp c) → r ≡ branch_of (mirror c) sense)
+          → TestIs ws i (Some (b, (How.Imm r n))) (pick_of (tree ws i) sense)
       compare-left {n = n} q f =
           let v = picked left el in
           let w = f v.0 v.1 in
-          (v.2 ∙ pair v.0 ∙ ap (λ (x : Imm). compare_pick v.0 (tree ws a) (tree ws b) x NoImm sense) q ∙ ap (λ (x : JumpCmp). one (tree ws b) (How.Imm x n)) (sym w), inl db.of)
+          (v.2 ∙ pair v.0 ∙ ap (λ (x : Option Imm16). compare_pick v.0 (tree ws a) (tree ws b) x None sense) q ∙ ap (λ (x : JumpCmp). one (tree ws b) (How.Imm x n)) (sym w), inl db.of)
 
-      pub compare-both : left ≡ NoImm → TestIs ws i T.Two (pick_of (tree ws i) sense)
-      compare-both q = let v = picked left el in v.2 ∙ pair v.0 ∙ ap (λ (x : Imm). compare_pick v.0 (tree ws a) (tree ws b) x NoImm sense) q
+      pub compare-both : left ≡ None → TestIs ws i None (pick_of (tree ws i) sense)
+      compare-both q = let v = picked left el in v.2 ∙ pair v.0 ∙ ap (λ (x : Option Imm16). compare_pick v.0 (tree ws a) (tree ws b) x None sense) q
 
 pub ruleset compares = (compare-1, compare-2, compare-child, compare-right, compare-left, compare-both)
 
@@ -95,12 +94,12 @@ module _ {ws : List ℕ} {i : ℕ} (h : Inner ws i 0) {k : ℕ} (e : k ≡ kind_
       go n (is-binary o v) = op o v
       go n (is-ternary v) = rw v.is
 
-  pub test_low : (sense : Bool) → k < 18 → TestIs ws i (T.One i (How.Bool sense)) (pick_of (tree ws i) sense)
+  pub test_low : (sense : Bool) → k < 18 → TestIs ws i (Some (i, (How.Bool sense))) (pick_of (tree ws i) sense)
   test_low sense l =
       let q : kind_at ws i < 18 = rw e at l in
       (alone sense (λ a b. omega numbers), inr (refl, rw (lt-leb 18 (kind_at ws i) q)))
 
-  pub test-high : (sense : Bool) → 23 < k → TestIs ws i (T.One i (How.Bool sense)) (pick_of (tree ws i) sense)
+  pub test-high : (sense : Bool) → 23 < k → TestIs ws i (Some (i, (How.Bool sense))) (pick_of (tree ws i) sense)
   test-high sense l =
       let q : 23 < kind_at ws i = rw e at l in
       (alone sense (λ a b. omega numbers), inr (refl, rw (le-leb 18 (kind_at ws i) (omega numbers), lt-leb (kind_at ws i) 23 q)))

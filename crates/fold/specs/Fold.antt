@@ -1,5 +1,6 @@
 -- What an instruction takes in (01, "Emission rules"): a fixnum on the right of an operator, a literal of a comparison.
-use Rattle.std.specs.Prelude.{Bool, true, false, ℕ, ℤ, negsuc}
+use Rattle.insns.specs.declared.op.Imm16.{Imm16}
+use Rattle.std.specs.Prelude.{Bool, true, false, ℕ, ℤ, negsuc, Option, Some, None}
 use Rattle.table.specs.Tree.{Arith, bit_and, bit_or, bit_xor, lshift, rshift, add, sub, mul, div, mod', Cmp}
 use Rattle.table.specs.Tree.{Binary, arith, cmp, and, or, Tree, leaf, unary, binary, ternary}
 use Rattle.insns.specs.declared.op.Op.{Op}
@@ -10,80 +11,70 @@ use Rattle.insns.specs.declared.op.Shift.{Shift}
 use Rattle.insns.specs.declared.op.Shift.TheVariants as Shift
 use Rattle.fold.specs.declared.Tail.{Tail}
 use Rattle.fold.specs.declared.Tail.TheVariants as Tail
-use Rattle.fold.specs.declared.Fold.{Fold}
-use Rattle.fold.specs.declared.Fold.TheVariants.{Into, General}
-use Rattle.fold.specs.declared.literal.Lit.{Lit}
-use Rattle.fold.specs.declared.literal.Lit.TheVariants.{Is, Not}
-use Rattle.fold.specs.declared.literal.Imm.{Imm}
-use Rattle.fold.specs.declared.literal.Imm.TheVariants.{Imm16, NoImm}
-use Rattle.fold.specs.declared.literal.Amount.{Amount}
-use Rattle.fold.specs.declared.literal.Amount.TheVariants.{By, NoShift}
 use Rattle.fold.specs.declared.How.{How}
 use Rattle.fold.specs.declared.How.TheVariants as How
-use Rattle.fold.specs.declared.literal.Run.{Run}
-use Rattle.fold.specs.declared.literal.Run.TheVariants.{Ones, Other}
 use Rattle.fold.specs.Literal.{bit_run, const_of, imm_of, amount_of, amount_lit}
 use Rattle.fold.specs.Opcodes.{mirror, branch_of}
 
 -- ---- operators: an instruction of one register has a destination, that register and what it takes in, its tail
 
 -- the amount by which a tree is a right shift, if that is a literal from 0 to 63
-unfoldable pub shift_by : Binary → Tree → Amount
-shift_by (arith bit_and) b = NoShift
-shift_by (arith bit_or) b = NoShift
-shift_by (arith bit_xor) b = NoShift
-shift_by (arith lshift) b = NoShift
+unfoldable pub shift_by : Binary → Tree → Option ℕ
+shift_by (arith bit_and) b = None
+shift_by (arith bit_or) b = None
+shift_by (arith bit_xor) b = None
+shift_by (arith lshift) b = None
 shift_by (arith rshift) b = amount_lit (const_of b)
-shift_by (arith add) b = NoShift
-shift_by (arith sub) b = NoShift
-shift_by (arith mul) b = NoShift
-shift_by (arith div) b = NoShift
-shift_by (arith mod') b = NoShift
-shift_by (cmp c) b = NoShift
-shift_by and b = NoShift
-shift_by or b = NoShift
+shift_by (arith add) b = None
+shift_by (arith sub) b = None
+shift_by (arith mul) b = None
+shift_by (arith div) b = None
+shift_by (arith mod') b = None
+shift_by (cmp c) b = None
+shift_by and b = None
+shift_by or b = None
 
-unfoldable pub shifted_by : Tree → Amount
-shifted_by (leaf l) = NoShift
-shifted_by (unary o a) = NoShift
+unfoldable pub shifted_by : Tree → Option ℕ
+shifted_by (leaf l) = None
+shifted_by (unary o a) = None
 shifted_by (binary o a b) = shift_by o b
-shifted_by (ternary c a b) = NoShift
+shifted_by (ternary c a b) = None
 
 -- BitAnd by a mask of one run of ones, which takes in a right shift on its left
-abbrev pub mask_fold : Amount → Run → Fold
-mask_fold (By k) (Ones lo len) = Into (Tail.ShiftMask k lo len)
-mask_fold NoShift (Ones lo len) = Into (Tail.Mask lo len)
-mask_fold s Other = General
+abbrev pub mask_fold : Option ℕ → Option (ℕ × ℕ) → Option Tail
+mask_fold (Some k) (Some (lo, len)) = Some (Tail.ShiftMask k lo len)
+mask_fold None (Some (lo, len)) = Some (Tail.Mask lo len)
+mask_fold s None = None
 
 -- a shift by 0 to 63
-abbrev pub shift_fold : Shift → Amount → Fold
-shift_fold o (By k) = Into (Tail.Shift o k)
-shift_fold o NoShift = General
+abbrev pub shift_fold : Shift → Option ℕ → Option Tail
+shift_fold o (Some k) = Some (Tail.Shift o k)
+shift_fold o None = None
 
 -- Add, Sub and Mul from -32,768 to 32,767
-abbrev pub imm_fold : ImmArith → Imm → Fold
-imm_fold o (Imm16 n) = Into (Tail.Imm o n)
-imm_fold o NoImm = General
+abbrev pub imm_fold : ImmArith → Option Imm16 → Option Tail
+imm_fold o (Some n) = Some (Tail.Imm o n)
+imm_fold o None = None
 
 -- the right operand is the fixnum z, the left one a right shift by s; if no immediate fits, the general form
-unfoldable pub fold_by : Arith → Amount → ℤ → Fold
+unfoldable pub fold_by : Arith → Option ℕ → ℤ → Option Tail
 fold_by bit_and s z = mask_fold s (bit_run z)
-fold_by bit_or s z = General
-fold_by bit_xor s z = General
+fold_by bit_or s z = None
+fold_by bit_xor s z = None
 fold_by lshift s z = shift_fold Shift.Left (amount_of z)
 fold_by rshift s z = shift_fold Shift.Right (amount_of z)
 fold_by add s z = imm_fold Plus (imm_of z)
 fold_by sub s z = imm_fold Minus (imm_of z)
 fold_by mul s z = imm_fold Times (imm_of z)
-fold_by div s z = General
-fold_by mod' s z = General
+fold_by div s z = None
+fold_by mod' s z = None
 
-abbrev pub fold_lit : Arith → Amount → Lit → Fold
-fold_lit o s (Is z) = fold_by o s z
-fold_lit o s Not = General
+abbrev pub fold_lit : Arith → Option ℕ → Option ℤ → Option Tail
+fold_lit o s (Some z) = fold_by o s z
+fold_lit o s None = None
 
 -- the operator o on the trees a and b
-abbrev pub fold_of : Arith → Tree → Tree → Fold
+abbrev pub fold_of : Arith → Tree → Tree → Option Tail
 fold_of o a b = fold_lit o (shifted_by a) (const_of b)
 
 -- Minus is Mul by -1
@@ -113,7 +104,7 @@ pub data Picked (A : Type 0) : Type 0 where
   two : Picked A
 
 -- a literal of 16 bits is taken from the right, else from the left with the comparison mirrored; a and b stand for the operands
-abbrev pub compare_pick : {A : Type 0} → Cmp → A → A → Imm → Imm → Bool → Picked A
-compare_pick c a b l (Imm16 n) sense = one a (How.Imm (branch_of c sense) n)
-compare_pick c a b (Imm16 n) NoImm sense = one b (How.Imm (branch_of (mirror c) sense) n)
-compare_pick c a b NoImm NoImm sense = two
+abbrev pub compare_pick : {A : Type 0} → Cmp → A → A → Option Imm16 → Option Imm16 → Bool → Picked A
+compare_pick c a b l (Some n) sense = one a (How.Imm (branch_of c sense) n)
+compare_pick c a b (Some n) None sense = one b (How.Imm (branch_of (mirror c) sense) n)
+compare_pick c a b None None sense = two

@@ -1,15 +1,12 @@
 -- Plumbing: what the contracts of `fold` say of a node of an accepted table, by the tree at it. The meaning is in Fold and Opcodes.
-use Rattle.std.specs.Prelude.{◌≡◌, Bool, false, cond, ◌&&◌, ◌⊎◌, List, ℕ, ◌<◌, ◌≤◌, leb}
+use Rattle.fold.specs.declared.How.{How}
+use Rattle.std.specs.Prelude.{◌≡◌, Bool, false, cond, ◌&&◌, ◌⊎◌, List, ℕ, ◌<◌, ◌≤◌, leb, Option, Some, None}
 use Rattle.table.specs.Table.{kind_at}
 use Rattle.table.specs.Nodes.{Node, Child}
 use Rattle.table.specs.Tree.{minus, not', arith, cmp, and, or, Tree, leaf, unary, binary, ternary, tree}
 use Rattle.fold.specs.declared.Tail.{Tail}
 use Rattle.fold.specs.declared.Tail.TheVariants as Tail
-use Rattle.fold.specs.declared.Fold.{Fold}
-use Rattle.fold.specs.declared.Fold.TheVariants.{Into, General}
 use Rattle.fold.specs.declared.How.TheVariants as How
-use Rattle.fold.specs.declared.Test.{Test}
-use Rattle.fold.specs.declared.Test.TheVariants as Test
 use Rattle.fold.specs.Literal.{as_imm16}
 use Rattle.fold.specs.Fold.{fold_of, minus_one, takes_shift, Picked, one, two, compare_pick}
 
@@ -38,15 +35,15 @@ pub record Comparison (t : List ℕ) (i : ℕ) : Type 0 where
 
 -- ---- what an operator takes in
 
-unfoldable pub op_fold : Tree → Fold
-op_fold (leaf l) = General
-op_fold (unary minus a) = Into minus_one
-op_fold (unary not' a) = Into Tail.Not
+unfoldable pub op_fold : Tree → Option Tail
+op_fold (leaf l) = None
+op_fold (unary minus a) = Some minus_one
+op_fold (unary not' a) = Some Tail.Not
 op_fold (binary (arith o) a b) = fold_of o a b
-op_fold (binary (cmp c) a b) = General
-op_fold (binary and a b) = General
-op_fold (binary or a b) = General
-op_fold (ternary c a b) = General
+op_fold (binary (cmp c) a b) = None
+op_fold (binary and a b) = None
+op_fold (binary or a b) = None
+op_fold (ternary c a b) = None
 
 -- the first operand of a node; a leaf is its own
 abbrev pub left_of : Tree → Tree
@@ -81,6 +78,6 @@ abbrev pub Tested : List ℕ → ℕ → ℕ → Type 0
 Tested t i j = ((base : ℕ) → Node t base i → Child t base i j) ⊎ ((j ≡ i) × (is_comparison (kind_at t i) ≡ false))
 
 -- the answer of the code, by nodes, is p, by trees
-abbrev pub TestIs : List ℕ → ℕ → Test → Picked Tree → Type 0
-TestIs t i (Test.One j how) p = (p ≡ one (tree t j) how) × (Tested t i j)
-TestIs t i Test.Two p = p ≡ two
+abbrev pub TestIs : List ℕ → ℕ → Option (ℕ × How) → Picked Tree → Type 0
+TestIs t i (Some (j, how)) p = (p ≡ one (tree t j) how) × (Tested t i j)
+TestIs t i None p = p ≡ two

@@ -7,34 +7,6 @@ ghost use Rattle.fold.specs.Literal.{bits, bit_run, fits_imm40, lit_of, const_of
 
 use insns::op::Imm16;
 
-// An Int literal, or anything else.
-#[derive(Clone, Copy)]
-pub enum Lit {
-    Is(i64),
-    Not,
-}
-
-// A literal of 16 bits, or anything else.
-#[derive(Clone, Copy)]
-pub enum Imm {
-    Imm16(Imm16),
-    NoImm,
-}
-
-// A shift's amount, 0 to 63, or anything else.
-#[derive(Clone, Copy)]
-pub enum Amount {
-    By(u8),
-    NoShift,
-}
-
-// A mask that is one run of ones, by its lowest bit and its length, or any other.
-#[derive(Clone, Copy)]
-pub enum Run {
-    Ones(u8, u8),
-    Other,
-}
-
 // How many bits equal to `bit` stand first in m, from the lowest.
 fn bits_of(bit: u64, m: u64) -> u64
     ensures { result ≡ bits bit 64 m }
@@ -53,28 +25,28 @@ fn bits_of(bit: u64, m: u64) -> u64
 
 // A mask that is one run of set bits, as the position of its lowest set bit and the length of the run. Runs of more than 62 bits are rejected, as in
 // the Rust, where a mask must not need boxing; that it is a fixnum `const_value` has tested.
-pub(crate) fn bit_run(mask: i64) -> Run
+pub(crate) fn bit_run(mask: i64) -> Option<(u8, u8)>
     ensures { result ≡ bit_run mask }
 {
     if mask <= 0 {
-        return Run::Other;
+        return None;
     }
     let m = mask as u64;
     let lo = bits_of(0, m);
     if 62 < lo {
-        return Run::Other;
+        return None;
     }
     let x = m >> lo;
     let len = bits_of(1, x);
     let top = lo + len;
     if 62 < top {
-        return Run::Other;
+        return None;
     }
     // Anything left above the run means that the set bits are not contiguous.
     if x >> len != 0 {
-        return Run::Other;
+        return None;
     }
-    Run::Ones(lo as u8, len as u8)
+    Some((lo as u8, len as u8))
 }
 
 // The ranges of an immediate of 16 bits, of the Int in the immediate of load_imm40, and of a fixnum: -n to n - 1 of each n.
@@ -100,63 +72,63 @@ pub fn fits_imm40(z: i64) -> bool
 }
 
 // The Int literal at node i.
-fn lit_of(nodes: &[u64], i: usize) -> Lit
+fn lit_of(nodes: &[u64], i: usize) -> Option<i64>
     requires { Inner nodes.now i 0 }
     ensures { result ≡ lit_of (tree nodes.now i) }
 {
     if table::kind_at(nodes, i) == table::INT {
-        return Lit::Is(int64::sign::signed(table::payload_at(nodes, i)));
+        return Some(int64::sign::signed(table::payload_at(nodes, i)));
     }
-    Lit::Not
+    None
 }
 
 // The fixnum that node i is known to hold at the time it is compiled. Callers that need it to fit in an instruction check that themselves, since
 // whether it has to is a property of what they are emitting rather than of the node.
-pub(crate) fn const_value(nodes: &[u64], i: usize) -> Lit
+pub(crate) fn const_value(nodes: &[u64], i: usize) -> Option<i64>
     requires { Inner nodes.now i 0 }
     ensures { result ≡ const_of (tree nodes.now i) }
 {
     let l = lit_of(nodes, i);
-    let Lit::Is(z) = l else {
+    let Some(z) = l else {
         return l;
     };
     if within(z, FIXNUM) {
         return l;
     }
-    Lit::Not
+    None
 }
 
 // z as the immediate of an operator or of a branch.
-pub(crate) fn imm_of(z: i64) -> Imm
+pub(crate) fn imm_of(z: i64) -> Option<Imm16>
     ensures { result ≡ imm_of z }
 {
     if within(z, IMM16) {
-        return Imm::Imm16(Imm16 { n: z as i16 });
+        return Some(Imm16 { n: z as i16 });
     }
-    Imm::NoImm
+    None
 }
 
 // An integer literal that fits the immediate that a compare and branch carries.
-pub(crate) fn as_imm16(nodes: &[u64], i: usize) -> Imm
+pub(crate) fn as_imm16(nodes: &[u64], i: usize) -> Option<Imm16>
     requires { Inner nodes.now i 0 }
     ensures { result ≡ as_imm16 (tree nodes.now i) }
 {
     let l = lit_of(nodes, i);
-    let Lit::Is(z) = l else {
-        return Imm::NoImm;
+    let Some(z) = l else {
+        return None;
     };
     imm_of(z)
 }
 
 // z as a shift's amount. Anything below the word size is accepted, which is what lets the instruction itself skip checking the amount.
-pub(crate) fn amount_of(z: i64) -> Amount
+pub(crate) fn amount_of(z: i64) -> Option<u8>
     ensures { result ≡ amount_of z }
 {
     if z < 0 {
-        return Amount::NoShift;
+        return None;
     }
     if 63 < z {
-        return Amount::NoShift;
+        return None;
     }
-    Amount::By(z as u8)
+    Some(z as u8)
 }

@@ -10,21 +10,21 @@ use crate::fields::{
     make1, make2, make3, make4, make5, raw_bits,
 };
 use crate::op::{Arith, Bare, ById, Call, Cmp, One, Op, Sense, Shift, Slot, Three, Two, Wide};
-use crate::{Insn, Made};
+use crate::Insn;
 
-pub fn two_word(op: u8, dst: u16, src: u16) -> Made
+pub fn two_word(op: u8, dst: u16, src: u16) -> Option<Insn>
     ensures { result ≡ make op (u 16 dst ∷ u 16 src ∷ []) }
 {
     make2(op, SIZE_16, dst as u64, SIZE_16, src as u64)
 }
 
-pub(crate) fn slot_word(op: u8, dst: u16, slot: u32) -> Made
+pub(crate) fn slot_word(op: u8, dst: u16, slot: u32) -> Option<Insn>
     ensures { result ≡ make op (u 16 dst ∷ u 32 slot ∷ []) }
 {
     make2(op, SIZE_16, dst as u64, SIZE_32, slot as u64)
 }
 
-pub fn three_word(op: u8, dst: u16, a: u16, b: u16) -> Made
+pub fn three_word(op: u8, dst: u16, a: u16, b: u16) -> Option<Insn>
     ensures { result ≡ make op (u 16 dst ∷ u 16 a ∷ u 16 b ∷ []) }
 {
     make3(
@@ -32,7 +32,7 @@ pub fn three_word(op: u8, dst: u16, a: u16, b: u16) -> Made
     )
 }
 
-pub fn shift_word(op: u8, dst: u16, a: u16, shift: u8) -> Made
+pub fn shift_word(op: u8, dst: u16, a: u16, shift: u8) -> Option<Insn>
     ensures { result ≡ make op (u 16 dst ∷ u 16 a ∷ u 6 shift ∷ []) }
 {
     make3(
@@ -46,7 +46,7 @@ pub fn shift_word(op: u8, dst: u16, a: u16, shift: u8) -> Made
     )
 }
 
-pub(crate) fn bit_and_mask_word(op: u8, dst: u16, a: u16, lo: u8, len: u8) -> Made
+pub(crate) fn bit_and_mask_word(op: u8, dst: u16, a: u16, lo: u8, len: u8) -> Option<Insn>
     ensures { result ≡ make op (u 16 dst ∷ u 16 a ∷ u 6 lo ∷ u 6 len ∷ []) }
 {
     make4(
@@ -54,7 +54,7 @@ pub(crate) fn bit_and_mask_word(op: u8, dst: u16, a: u16, lo: u8, len: u8) -> Ma
     )
 }
 
-pub(crate) fn rshift_mask_word(op: u8, dst: u16, a: u16, shift: u8, lo: u8, len: u8) -> Made
+pub(crate) fn rshift_mask_word(op: u8, dst: u16, a: u16, shift: u8, lo: u8, len: u8) -> Option<Insn>
     ensures { result ≡ make op (u 16 dst ∷ u 16 a ∷ u 6 shift ∷ u 6 lo ∷ u 6 len ∷ []) }
 {
     make5(
@@ -72,7 +72,7 @@ pub(crate) fn rshift_mask_word(op: u8, dst: u16, a: u16, shift: u8, lo: u8, len:
     )
 }
 
-pub(crate) fn clos_new_word(op: u8, dst: u16, fun: u32, num: u16) -> Made
+pub(crate) fn clos_new_word(op: u8, dst: u16, fun: u32, num: u16) -> Option<Insn>
     ensures { result ≡ make op (u 16 dst ∷ u 24 fun ∷ u 12 num ∷ []) }
 {
     make3(
@@ -80,7 +80,7 @@ pub(crate) fn clos_new_word(op: u8, dst: u16, fun: u32, num: u16) -> Made
     )
 }
 
-pub(crate) fn clos_set_word(op: u8, clos: u16, src: u16, idx: u16) -> Made
+pub(crate) fn clos_set_word(op: u8, clos: u16, src: u16, idx: u16) -> Option<Insn>
     ensures { result ≡ make op (u 16 clos ∷ u 16 src ∷ u 12 idx ∷ []) }
 {
     make3(
@@ -94,19 +94,19 @@ pub(crate) fn clos_set_word(op: u8, clos: u16, src: u16, idx: u16) -> Made
     )
 }
 
-pub(crate) fn clos_get_word(op: u8, dst: u16, idx: u16) -> Made
+pub(crate) fn clos_get_word(op: u8, dst: u16, idx: u16) -> Option<Insn>
     ensures { result ≡ make op (u 16 dst ∷ u 12 idx ∷ []) }
 {
     make2(op, SIZE_16, dst as u64, SIZE_12, idx as u64)
 }
 
-pub fn one_word(op: u8, dst: u16) -> Made
+pub fn one_word(op: u8, dst: u16) -> Option<Insn>
     ensures { result ≡ make op (u 16 dst ∷ []) }
 {
     make1(op, SIZE_16, dst as u64)
 }
 
-pub(crate) fn wide_word(op: u8, dst: u16, val: u16, class: u32) -> Made
+pub(crate) fn wide_word(op: u8, dst: u16, val: u16, class: u32) -> Option<Insn>
     ensures { result ≡ make op (u 16 dst ∷ u 16 val ∷ u 24 class ∷ []) }
 {
     make3(
@@ -120,7 +120,7 @@ pub(crate) fn wide_word(op: u8, dst: u16, val: u16, class: u32) -> Made
     )
 }
 
-pub(crate) fn call_word(op: u8, start: u16, argc: u8, cache: u32) -> Made
+pub(crate) fn call_word(op: u8, start: u16, argc: u8, cache: u32) -> Option<Insn>
     ensures { result ≡ make op (u 16 start ∷ u 8 argc ∷ u 24 cache ∷ []) }
 {
     make3(
@@ -134,7 +134,7 @@ pub(crate) fn call_word(op: u8, start: u16, argc: u8, cache: u32) -> Made
     )
 }
 
-pub(crate) fn call_host_word(op: u8, host: u16, start: u16, argc: u8) -> Made
+pub(crate) fn call_host_word(op: u8, host: u16, start: u16, argc: u8) -> Option<Insn>
     ensures { result ≡ make op (u 16 host ∷ u 16 start ∷ u 8 argc ∷ []) }
 {
     make3(
@@ -148,7 +148,7 @@ pub(crate) fn call_host_word(op: u8, host: u16, start: u16, argc: u8) -> Made
     )
 }
 
-pub(crate) fn by_id_word(op: u8, fun: u32, start: u16, argc: u8) -> Made
+pub(crate) fn by_id_word(op: u8, fun: u32, start: u16, argc: u8) -> Option<Insn>
     ensures { result ≡ make op (u 24 fun ∷ u 16 start ∷ u 8 argc ∷ []) }
 {
     make3(
@@ -162,7 +162,7 @@ pub(crate) fn by_id_word(op: u8, fun: u32, start: u16, argc: u8) -> Made
     )
 }
 
-pub(crate) fn call_method_host_word(op: u8, start: u16, argc: u8, tag: u8, cache: u32) -> Made
+pub(crate) fn call_method_host_word(op: u8, start: u16, argc: u8, tag: u8, cache: u32) -> Option<Insn>
     ensures { result ≡ make op (u 16 start ∷ u 8 argc ∷ u 8 tag ∷ u 24 cache ∷ []) }
 {
     make4(
@@ -337,7 +337,7 @@ pub fn by_id_op(k: ById) -> u8
 }
 
 // The word of i, or Refused (9).
-pub fn encode(i: Op) -> Made
+pub fn encode(i: Op) -> Option<Insn>
     ensures { result ≡ made_of i }
 {
     match i {

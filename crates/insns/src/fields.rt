@@ -6,7 +6,7 @@ ghost use Rattle.insns.specs.Fields.{make, raw_bits};
 
 use crate::bits::{is_raw, signed_bits};
 use crate::op::Imm40;
-use crate::{Insn, Made};
+use crate::Insn;
 
 // The opcode is the low byte: what stands above it is worth so many.
 pub const SIZE_OPCODE: u64 = 1 << 8;
@@ -48,31 +48,31 @@ pub fn make5(
     d: u64,
     m5: u64,
     e: u64,
-) -> Made
+) -> Option<Insn>
     requires { m1 * (m2 * (m3 * (m4 * m5))) ≤ 2 ^ 56 }
     ensures { result ≡ make op ((m1, a) ∷ (m2, b) ∷ (m3, c) ∷ (m4, d) ∷ (m5, e) ∷ []) }
 {
     if m1 <= a {
-        return Made::Refused;
+        return None;
     }
     if m2 <= b {
-        return Made::Refused;
+        return None;
     }
     if m3 <= c {
-        return Made::Refused;
+        return None;
     }
     if m4 <= d {
-        return Made::Refused;
+        return None;
     }
     if m5 <= e {
-        return Made::Refused;
+        return None;
     }
     let low = op as u64;
     let t4 = d + m4 * e;
     let t3 = c + m3 * t4;
     let t2 = b + m2 * t3;
     let t1 = a + m1 * t2;
-    Made::Fits(Insn {
+    Some(Insn {
         bits: low + SIZE_OPCODE * t1,
     })
 }
@@ -88,35 +88,35 @@ pub(crate) fn make4(
     c: u64,
     m4: u64,
     d: u64,
-) -> Made
+) -> Option<Insn>
     requires { m1 * (m2 * (m3 * m4)) ≤ 2 ^ 56 }
     ensures { result ≡ make op ((m1, a) ∷ (m2, b) ∷ (m3, c) ∷ (m4, d) ∷ []) }
 {
     make5(op, m1, a, m2, b, m3, c, m4, d, 1, 0)
 }
 
-pub fn make3(op: u8, m1: u64, a: u64, m2: u64, b: u64, m3: u64, c: u64) -> Made
+pub fn make3(op: u8, m1: u64, a: u64, m2: u64, b: u64, m3: u64, c: u64) -> Option<Insn>
     requires { m1 * (m2 * m3) ≤ 2 ^ 56 }
     ensures { result ≡ make op ((m1, a) ∷ (m2, b) ∷ (m3, c) ∷ []) }
 {
     make5(op, m1, a, m2, b, m3, c, 1, 0, 1, 0)
 }
 
-pub fn make2(op: u8, m1: u64, a: u64, m2: u64, b: u64) -> Made
+pub fn make2(op: u8, m1: u64, a: u64, m2: u64, b: u64) -> Option<Insn>
     requires { m1 * m2 ≤ 2 ^ 56 }
     ensures { result ≡ make op ((m1, a) ∷ (m2, b) ∷ []) }
 {
     make5(op, m1, a, m2, b, 1, 0, 1, 0, 1, 0)
 }
 
-pub(crate) fn make1(op: u8, m1: u64, a: u64) -> Made
+pub(crate) fn make1(op: u8, m1: u64, a: u64) -> Option<Insn>
     requires { m1 ≤ 2 ^ 56 }
     ensures { result ≡ make op ((m1, a) ∷ []) }
 {
     make5(op, m1, a, 1, 0, 1, 0, 1, 0, 1, 0)
 }
 
-pub fn make0(op: u8) -> Made
+pub fn make0(op: u8) -> Option<Insn>
     ensures { result ≡ make op [] }
 {
     make5(op, 1, 0, 1, 0, 1, 0, 1, 0, 1, 0)

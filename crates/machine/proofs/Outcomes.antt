@@ -8,7 +8,7 @@ use lib.IntN.{ℤ, pos, negsuc, ◌+ℤ◌}
 use borrow.Author.Tests.{ltb-true}
 use Rattle.faults.specs.Numbers.{wrong_kind, out_of_range}
 use Rattle.value.specs.Value.{Datum, nil, bool, int, float}
-use Rattle.value.specs.Answer.{Result, is, fault}
+use Rattle.value.specs.Answer.{Answer, is, fault}
 use Rattle.effect.specs.Effect.{Effect, write, branch, next, halt}
 use Rattle.machine.specs.Step.{Next, go, put, stop, land_at, land_of, branch_of, write_of, settle_of}
 
@@ -17,12 +17,12 @@ pub picked : {A : Type 0} (P : A → Type 0) (b : Bool) {x y : A} → P x → P 
 picked P true h k = h
 picked P false h k = k
 
-module _ (P : Next → Type 0) (goes : (p : ℕ) → P (go p)) (stops : (n : ℕ) → P (stop n)) where
+module _ (P : Next → Type 0) (goes : (p : ℕ) → P (go p)) (stops : (n : Fault) → P (stop n)) where
   lands : (len : ℕ) (z : ℤ) → P (land_at len z)
   lands len (pos n) = picked P (leb n len) (goes n) (stops out_of_range)
   lands len (negsuc n) = stops out_of_range
 
-  pub branches : (len at : ℕ) (z : ℤ) (r : Result) → P (branch_of len at z r)
+  pub branches : (len at : ℕ) (z : ℤ) (r : Answer) → P (branch_of len at z r)
   unfolding land_of
   branches len at z (is (bool true)) = lands len (pos (suc at) +ℤ z)
   branches len at z (is (bool false)) = goes (suc at)

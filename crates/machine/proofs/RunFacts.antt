@@ -1,4 +1,5 @@
 -- What follows from the definition of a run: it is determined, it is a step and then a run, and a register that no word writes keeps its contents.
+use Rattle.std.specs.Prelude.{Ok, Err}
 use mathlib.Core.Path.{◌≡◌, refl, sym, ◌∙◌}
 use mathlib.Core.List.{List}
 use Prim.Native.Nat.{ℕ, zero, suc, ◌<◌}
@@ -7,11 +8,10 @@ use lib.ListN.{length, get_or, set}
 use lib.Seq.{get_or-set_other}
 use borrow.Author.Tests.{lt-ltb}
 use Rattle.value.specs.Value.{kind_of, payload_of}
-use Rattle.value.specs.Answer.{Result, is}
+use Rattle.value.specs.Answer.{Answer, is}
 use Rattle.effect.specs.Effect.{write, size, held}
 use Rattle.machine.specs.Step.{Next, go, put, stop, settle_of, word_effect, after, lent, step_of}
 use Rattle.machine.specs.Run.{Out, out, ran, run_from}
-use Rattle.machine.specs.declared.step.Stepped.{Stepped}
 use Rattle.machine.specs.declared.run.Ran.{Ran}
 use Rattle.machine.proofs.Outcomes.{picked, settles}
 use Rattle.machine.proofs.StepLaws.{stop-keeps}
@@ -24,12 +24,12 @@ determined e f = (cc, cc, cc)
 -- ---- a step and then a run
 
 module _ (ws sks sps ks ps : List ℕ) (n s at : ℕ) (h : at < length ws) {ks' ps' : List ℕ} where
-  pub step-then-run : {p : ℕ} → step_of ws sks sps at ks ps ≡ after (Stepped.Moved p) ks' ps' → run_from ws sks sps (suc n) s at ks ps ≡ run_from ws sks sps n (suc s) p ks' ps'
+  pub step-then-run : {p : ℕ} → step_of ws sks sps at ks ps ≡ after (Ok p) ks' ps' → run_from ws sks sps (suc n) s at ks ps ≡ run_from ws sks sps n (suc s) p ks' ps'
   unfolding run_from
   step-then-run e = rw (lt-ltb at (length ws) h, e)
 
   -- a stopping step is not counted and writes nothing
-  pub step-then-stop : {e : ℕ} → step_of ws sks sps at ks ps ≡ after (Stepped.Stopped e) ks' ps' → run_from ws sks sps (suc n) s at ks ps ≡ out (ran e s at) ks ps
+  pub step-then-stop : {e : Fault} → step_of ws sks sps at ks ps ≡ after (Err e) ks' ps' → run_from ws sks sps (suc n) s at ks ps ≡ out (ran e s at) ks ps
   unfolding run_from
   step-then-stop {e} q = let k = stop-keeps ws sks sps ks ps at e q in rw (lt-ltb at (length ws) h, q, k.0, k.1)
 
@@ -37,7 +37,7 @@ module _ (ws sks sps ks ps : List ℕ) (n s at : ℕ) (h : at < length ws) {ks' 
 
 -- no word of the code asks for a write to r, whatever it reads
 pub record Spares (ws : List ℕ) (r : ℕ) : Type 0 where
-  pub spares : (at : ℕ) (reg slot : ℕ → Result) (d : ℕ) (x : Result) → word_effect reg slot (get_or ws at 0) ≡ write d x → d ≡ r → ⊥
+  pub spares : (at : ℕ) (reg slot : ℕ → Answer) (d : ℕ) (x : Answer) → word_effect reg slot (get_or ws at 0) ≡ write d x → d ≡ r → ⊥
 
 -- what both lists hold at r is what it was
 pub record Kept (r : ℕ) (ks ps ks' ps' : List ℕ) : Type 0 where
@@ -65,7 +65,7 @@ onward (out q ks'' ps'') k h = record { keeps = record { kind = h.keeps.kind ∙
 module _ (ws sks sps : List ℕ) (r : ℕ) (free : Spares ws r) where
   module _ (n s at : ℕ) (ks ps : List ℕ) (again : (p : ℕ) (ks ps : List ℕ) → Keeps r ks ps (run_from ws sks sps n (suc s) p ks ps)) where
     turn : (x : Next) → Elsewhere r x → Keeps r ks ps
-        (elim (lent ks ps x) [ after q ks' ps' ↦ elim q [ Stepped.Moved p ↦ run_from ws sks sps n (suc s) p ks' ps' | Stepped.Stopped e ↦ out (ran e s at) ks' ps' ] ])
+        (elim (lent ks ps x) [ after q ks' ps' ↦ elim q [ Ok p ↦ run_from ws sks sps n (suc s) p ks' ps' | Err e ↦ out (ran e s at) ks' ps' ] ])
     turn (go p) h = again p ks ps
     turn (put p d v) h =
         onward (run_from ws sks sps n (suc s) p (set ks d (kind_of v)) (set ps d (payload_of v)))

@@ -1,4 +1,6 @@
 -- A run, turn by turn: what is left of it gives the whole answer. And its checks before the first step.
+use Rattle.std.specs.Prelude.{Result, Ok, Err}
+use Rattle.faults.specs.declared.Fault.{Fault}
 use mathlib.Core.Path.{◌≡◌, sym, ap, subst}
 use mathlib.Core.Bool.{Bool, true, false, not}
 use mathlib.Core.List.{List}
@@ -11,7 +13,6 @@ use Rattle.faults.specs.Numbers.{budget_spent, out_of_range, ill_formed}
 use Rattle.value.specs.Value.{all_well}
 use Rattle.machine.specs.Step.{after, step_of}
 use Rattle.machine.specs.Run.{Out, out, ran, run_from, run_of, run_part_of}
-use Rattle.machine.specs.declared.step.Stepped.{Stepped}
 
 -- ---- turns
 
@@ -32,15 +33,15 @@ module _ (ws sks sps ks ps : List ℕ) (at s : ℕ) {o : Out} where
         let f : run_from ws sks sps 0 s at ks ps ≡ o = rw z at e in
         rw (lt-ltb at (length ws) h) at f
 
-    module _ (l : s ≤ budget) (g : s ≡ budget → ⊥) {ks' ps' : List ℕ} {r : Stepped} (q : after r ks' ps' ≡ step_of ws sks sps at ks ps) where
+    module _ (l : s ≤ budget) (g : s ≡ budget → ⊥) {ks' ps' : List ℕ} {r : Result ℕ Fault} (q : after r ks' ps' ≡ step_of ws sks sps at ks ps) where
       turn : run_from ws sks sps (suc (budget - (s + 1))) s at ks ps ≡ o
       turn = let z : budget - s ≡ suc (budget - (s + 1)) = omega arith in rw z at e
 
-      pub run-stopped : {n : ℕ} → r ≡ Stepped.Stopped n → out (ran n s at) ks' ps' ≡ o
+      pub run-stopped : {n : Fault} → r ≡ Err n → out (ran n s at) ks' ps' ≡ o
       unfolding run_from
       run-stopped f = rw (lt-ltb at (length ws) h, ← q, f) at turn
 
-      pub run_moved : {p : ℕ} → r ≡ Stepped.Moved p → run_from ws sks sps (budget - (s + 1)) (s + 1) p ks' ps' ≡ o
+      pub run_moved : {p : ℕ} → r ≡ Ok p → run_from ws sks sps (budget - (s + 1)) (s + 1) p ks' ps' ≡ o
       unfolding run_from
       run_moved {p} f =
           subst (λ (n : ℕ). run_from ws sks sps (budget - (s + 1)) n p ks' ps' ≡ o) (sym (add-one s))

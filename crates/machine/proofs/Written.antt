@@ -1,4 +1,5 @@
 -- What a step writes is a register's, and has a lent form that reads back as itself.
+use Rattle.std.specs.Prelude.{Option, Some, None}
 use mathlib.Core.Path.{◌≡◌, refl}
 use mathlib.Core.Bool.{Bool, true, false, cond}
 use Prim.Native.Nat.{ℕ, ◌*◌, ◌-◌, ◌<◌, ◌^◌}
@@ -25,11 +26,10 @@ use Rattle.insns.specs.declared.op.Three.{Three}
 use Rattle.insns.specs.declared.op.Shift.{Shift}
 use Rattle.insns.specs.declared.op.Arith.{Arith}
 use Rattle.insns.specs.declared.op.Op.{Op}
-use Rattle.decode.specs.declared.Decoded.{Decoded}
 use Rattle.decode.specs.Decode.{decode_of}
 use Rattle.decode.proofs.Facts.{load-raw}
 use Rattle.value.specs.Value.{Datum, nil, bool, int, float}
-use Rattle.value.specs.Answer.{Result, is, fault}
+use Rattle.value.specs.Answer.{Answer, is, fault}
 use Rattle.ops.specs.Arith.{from_int, arith_of, whole_of}
 use Rattle.value.proofs.RoundTrip.{Holds}
 use Rattle.effect.specs.Effect.{Effect, write, branch, next, halt, both, literal, mask, raw_of, inverted, effect_of}
@@ -47,11 +47,11 @@ Fine (branch z r) = Unit {0}
 Fine next = Unit {0}
 Fine (halt n) = Unit {0}
 
-inverts : (r : Result) → Held (inverted r)
+inverts : (r : Answer) → Held (inverted r)
 unfolding inverted
 inverts r = negates r
 
-boths : (k : ℕ) (x y : Result) → Held x → Held y → Held (both k x y)
+boths : (k : ℕ) (x y : Answer) → Held x → Held y → Held (both k x y)
 unfolding both
 boths k (is x) (is y) h g = binaries k x y h.back g.back
 boths k (is x) (fault n) h g = record { back = tt }
@@ -81,7 +81,7 @@ sums-imm i f (bool b) z h = as_floats_lem f (bool b) (int z)
 sums-imm i f (int a) z h = h a
 sums-imm i f (float p) z h = as_floats_lem f (float p) (int z)
 
-ariths-imm : (k : Arith) (x : Result) (z : ℤ) → Held (both (arith_kind k) x (literal z))
+ariths-imm : (k : Arith) (x : Answer) (z : ℤ) → Held (both (arith_kind k) x (literal z))
 unfolding both I.operate
 ariths-imm k (fault n) z = record { back = tt }
 ariths-imm Arith.Plus (is v) z = sums-imm IO.Add FO.Add v z (λ a. exact (a +ℤ z))
@@ -105,7 +105,7 @@ shr a n s = by (ltb n 64)
     by true = record { back = rw (← floor-is) (record { sfits = lt_of_le_of_lt (mag_shr a (2 ^ n)) s.sfits }) }
     by false = record { back = tt }
 
-shifts-imm : (k : Shift) (x : Result) (n : ℕ) → Held x → Held (both (shift_kind k) x (literal (pos n)))
+shifts-imm : (k : Shift) (x : Answer) (n : ℕ) → Held x → Held (both (shift_kind k) x (literal (pos n)))
 unfolding both whole_of
 shifts-imm k (fault m) n h = record { back = tt }
 shifts-imm Shift.Left (is nil) n h = record { back = tt }
@@ -117,8 +117,8 @@ shifts-imm Shift.Right (is (bool b)) n h = record { back = tt }
 shifts-imm Shift.Right (is (float p)) n h = record { back = tt }
 shifts-imm Shift.Right (is (int a)) n h = shr a n h.back
 
-module _ (reg slot : ℕ → Result) (hr : (r : ℕ) → Held (reg r)) (hs : (r : ℕ) → Held (slot r)) where
-  fine : (w : ℕ) (i : Op) → decode_of w ≡ Decoded.Is i → Fine (effect_of reg slot i)
+module _ (reg slot : ℕ → Answer) (hr : (r : ℕ) → Held (reg r)) (hs : (r : ℕ) → Held (slot r)) where
+  fine : (w : ℕ) (i : Op) → decode_of w ≡ Some i → Fine (effect_of reg slot i)
   fine w (Op.Bare Bare.Panic) e = tt
   fine w (Op.Bare Bare.Breakpoint) e = tt
   fine w (Op.Bare Bare.Nop) e = tt
@@ -154,9 +154,9 @@ module _ (reg slot : ℕ → Result) (hr : (r : ℕ) → Held (reg r)) (hs : (r 
   fine w (Op.CallMethodHost start argc tag cache) e = tt
   fine w (Op.RetImm40 z) e = tt
 
-  fines : (w : ℕ) (d : Decoded) → decode_of w ≡ d → Fine (decoded_of reg slot d)
-  fines w (Decoded.Is i) e = fine w i e
-  fines w Decoded.Bad e = tt
+  fines : (w : ℕ) (d : Option Op) → decode_of w ≡ d → Fine (decoded_of reg slot d)
+  fines w (Some i) e = fine w i e
+  fines w None e = tt
 
   pub fine-word : (w : ℕ) → Fine (word_effect reg slot w)
   unfolding word_effect

@@ -3,12 +3,12 @@
 use Rattle.std.specs.Prelude.{ℕ, zero, suc, cond, List, ltb, length, get_or, set}
 use Rattle.faults.specs.Numbers.{budget_spent, out_of_range}
 use Rattle.value.specs.Value.{Datum, nil}
-use Rattle.value.specs.Answer.{Result, is, fault}
+use Rattle.value.specs.Answer.{Answer, is, fault}
 use Rattle.machine.specs.Step.{Next, go, put, stop, settle_of, word_effect}
 use Rattle.machine.specs.Run.{ran}
 use Rattle.machine.specs.declared.run.Ran.{Ran}
 
-unfoldable pub value_at : List Datum → ℕ → Result
+unfoldable pub value_at : List Datum → ℕ → Answer
 value_at rs r = cond (ltb r (length rs)) (is (get_or rs r nil)) (fault out_of_range)
 
 unfoldable pub next_of : List ℕ → List Datum → ℕ → List Datum → Next

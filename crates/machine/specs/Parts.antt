@@ -1,8 +1,9 @@
 -- Plumbing: what the parts of `step` that write nothing answer.
+use Rattle.std.specs.Prelude.{Result, Ok, Err}
+use Rattle.faults.specs.declared.Fault.{Fault}
 use Rattle.machine.specs.Step.{Next, go, put, stop}
-use Rattle.machine.specs.declared.step.Stepped.{Stepped}
 
-abbrev pub told_of : Next → Stepped
-told_of (go p) = Stepped.Moved p
-told_of (put p d v) = Stepped.Moved p
-told_of (stop n) = Stepped.Stopped n
+abbrev pub told_of : Next → Result ℕ Fault
+told_of (go p) = Ok p
+told_of (put p d v) = Ok p
+told_of (stop n) = Err n

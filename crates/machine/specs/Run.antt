@@ -1,9 +1,8 @@
 -- A run, by document 01, "The machine": the steps one after the other, until the end, a stop, or the budget is spent.
-use Rattle.std.specs.Prelude.{ℕ, zero, suc, ◌-◌, cond, ◌&&◌, List, ltb, leb, length, take, drop}
+use Rattle.std.specs.Prelude.{ℕ, zero, suc, ◌-◌, cond, ◌&&◌, List, ltb, leb, length, take, drop, Ok, Err}
 use Rattle.faults.specs.Numbers.{budget_spent, out_of_range, ill_formed}
 use Rattle.value.specs.Value.{all_well}
 use Rattle.machine.specs.Step.{after, step_of}
-use Rattle.machine.specs.declared.step.Stepped.{Stepped}
 use Rattle.machine.specs.declared.run.Ran.{Ran}
 
 -- the report, and what the kinds and the payloads of the registers are at the end
@@ -23,7 +22,7 @@ module _ (ws sks sps : List ℕ) where
   run_from (suc n) s at ks ps =
       cond (ltb at (length ws))
       (elim (step_of ws sks sps at ks ps) [
-        | after r ks' ps' ↦ elim r [ Stepped.Moved p ↦ run_from n (suc s) p ks' ps' | Stepped.Stopped e ↦ out (ran e s at) ks' ps' ]
+        | after r ks' ps' ↦ elim r [ Ok p ↦ run_from n (suc s) p ks' ps' | Err e ↦ out (ran e s at) ks' ps' ]
       ])
       (out (ran 0 s at) ks ps)
 

@@ -7,22 +7,15 @@ ghost use Rattle.machine.specs.Step as St;
 ghost use Rattle.machine.specs.Step.{after, lent};
 ghost use Rattle.machine.specs.Parts.{told_of};
 
-use decode::{Decoded, decode};
+use faults::Fault;
+use decode::decode;
 use effect::{Effect, effect_of, room};
 use insns::bits::magnitude;
 use insns::op::Disp;
-use value::answer::Answer;
 use value::{Value, kind_of, payload_of};
 
-// Moved to a position, or stopped with a number.
-#[derive(Clone, Copy)]
-pub enum Stepped {
-    Moved(usize),
-    Stopped(u8),
-}
-
 // A taken branch. `magnitude` of a negative z is -z - 1, so that its target at + 1 + z is at - m, and no sum here can wrap.
-fn land(len: usize, at: usize, z: Disp) -> Stepped
+fn land(len: usize, at: usize, z: Disp) -> Result<usize, Fault>
     requires { at < len }
     ensures { result ≡ told_of (St.land_of len at z.by) }
 {
@@ -30,35 +23,35 @@ fn land(len: usize, at: usize, z: Disp) -> Stepped
     let m = magnitude(n) as usize;
     if n < 0 {
         if m <= at {
-            return Stepped::Moved(at - m);
+            return Ok(at - m);
         }
-        return Stepped::Stopped(faults::OUT_OF_RANGE);
+        return Err(Fault::OutOfRange);
     }
     if m <= len - (at + 1) {
-        return Stepped::Moved(at + 1 + m);
+        return Ok(at + 1 + m);
     }
-    Stepped::Stopped(faults::OUT_OF_RANGE)
+    Err(Fault::OutOfRange)
 }
 
 // A branch by an answer: a fault, and 20 for what is no Bool, come before 26 for the target, which only a taken branch has.
-fn branch(len: usize, at: usize, z: Disp, a: Answer) -> Stepped
+fn branch(len: usize, at: usize, z: Disp, a: Result<Value, Fault>) -> Result<usize, Fault>
     requires { at < len }
     ensures { result ≡ told_of (St.branch_of len at z.by (result_of a)) }
 {
     match a {
-        Answer::Is(v) => match v {
+        Ok(v) => match v {
             Value::Bool(b) => {
                 if b {
                     return land(len, at, z);
                 }
-                Stepped::Moved(at + 1)
+                Ok(at + 1)
             }
-            Value::Nil => Stepped::Stopped(faults::WRONG_KIND),
-            Value::Int(_) => Stepped::Stopped(faults::WRONG_KIND),
-            Value::Float(_) => Stepped::Stopped(faults::WRONG_KIND),
-            Value::Nan(_) => Stepped::Stopped(faults::WRONG_KIND),
+            Value::Nil => Err(Fault::WrongKind),
+            Value::Int(_) => Err(Fault::WrongKind),
+            Value::Float(_) => Err(Fault::WrongKind),
+            Value::Nan(_) => Err(Fault::WrongKind),
         },
-        Answer::Fault(n) => Stepped::Stopped(n),
+        Err(n) => Err(n),
     }
 }
 
@@ -67,29 +60,29 @@ fn put(
     len: usize,
     at: usize,
     d: usize,
-    a: Answer,
+    a: Result<Value, Fault>,
     kinds: &mut [u8],
     payloads: &mut [u64],
-) -> Stepped
+) -> Result<usize, Fault>
     requires { at < len }
     ensures { after result kinds.new payloads.new
         ≡ lent kinds.old payloads.old (St.write_of (size kinds.old payloads.old) at d (result_of a)) }
 {
     if room(kinds, payloads) <= d {
-        return Stepped::Stopped(faults::OUT_OF_RANGE);
+        return Err(Fault::OutOfRange);
     }
     match a {
-        Answer::Is(v) => {
+        Ok(v) => {
             kinds[d] = kind_of(v);
             payloads[d] = payload_of(v);
-            Stepped::Moved(at + 1)
+            Ok(at + 1)
         }
-        Answer::Fault(f) => Stepped::Stopped(f),
+        Err(f) => Err(f),
     }
 }
 
 // An effect carried out.
-fn settle(len: usize, at: usize, e: Effect, kinds: &mut [u8], payloads: &mut [u64]) -> Stepped
+fn settle(len: usize, at: usize, e: Effect, kinds: &mut [u8], payloads: &mut [u64]) -> Result<usize, Fault>
     requires { at < len }
     ensures { after result kinds.new payloads.new
         ≡ lent kinds.old payloads.old (St.settle_of len (size kinds.old payloads.old) at (asked e)) }
@@ -97,8 +90,8 @@ fn settle(len: usize, at: usize, e: Effect, kinds: &mut [u8], payloads: &mut [u6
     match e {
         Effect::Write(d, a) => put(len, at, d as usize, a, kinds, payloads),
         Effect::Branch(z, a) => branch(len, at, z, a),
-        Effect::Next => Stepped::Moved(at + 1),
-        Effect::Halt(n) => Stepped::Stopped(n),
+        Effect::Next => Ok(at + 1),
+        Effect::Halt(n) => Err(n),
     }
 }
 
@@ -113,8 +106,8 @@ fn word_effect(
     ensures { asked result
         ≡ St.word_effect (held kinds.now payloads.now) (held slot_kinds.now slot_payloads.now) w }
 {
-    let Decoded::Is(i) = decode(w) else {
-        return Effect::Halt(faults::UNDECODED);
+    let Some(i) = decode(w) else {
+        return Effect::Halt(Fault::Undecoded);
     };
     effect_of(i, kinds, payloads, slot_kinds, slot_payloads)
 }
@@ -127,7 +120,7 @@ pub fn step(
     payloads: &mut [u64],
     slot_kinds: &[u8],
     slot_payloads: &[u64],
-) -> Stepped
+) -> Result<usize, Fault>
     requires { at < length words.now }
     ensures { after result kinds.new payloads.new
         ≡ St.step_of words.now slot_kinds.now slot_payloads.now at kinds.old payloads.old }

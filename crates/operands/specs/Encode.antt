@@ -1,10 +1,10 @@
 -- From an opcode and five operands to a word. A signed operand is the two's complement pattern of 64 bits.
-use Rattle.std.specs.Prelude.{ℕ, cond, List, [], ◌∷◌, ltb, length}
+use Rattle.insns.specs.declared.Insn.{Insn}
+use Rattle.std.specs.Prelude.{ℕ, cond, List, [], ◌∷◌, ltb, length, Option, None}
 use Rattle.std.specs.Int.{w64}
 use Rattle.std.proofs.Common.{to_z}
 use Rattle.insns.specs.Fields.{Width, Operand, Field, u, field_of, make}
 use Rattle.insns.specs.Insns.{forms, form_at, widths}
-use Rattle.insns.specs.declared.Made.{Made}
 
 -- an operand, given as a number of 64 bits
 abbrev pub given : (w : Width) → ℕ → Operand w
@@ -20,5 +20,5 @@ fields_from [] (p ∷ ps) = u 0 p ∷ fields_from [] ps
 fields_from (w ∷ ws) (p ∷ ps) = field_of w (given w p) ∷ fields_from ws ps
 
 -- the word of an opcode and five operands, or Refused (9); so is an opcode over 76
-unfoldable pub encode_of : ℕ → ℕ → ℕ → ℕ → ℕ → ℕ → Made
-encode_of n a b c d e = cond (ltb n (length forms)) (make n (fields_from (widths (form_at n)) (a ∷ b ∷ c ∷ d ∷ e ∷ []))) Made.Refused
+unfoldable pub encode_of : ℕ → ℕ → ℕ → ℕ → ℕ → ℕ → Option Insn
+encode_of n a b c d e = cond (ltb n (length forms)) (make n (fields_from (widths (form_at n)) (a ∷ b ∷ c ∷ d ∷ e ∷ []))) None

@@ -4,8 +4,8 @@ ghost use Rattle.std.specs.Prelude.{◌≡◌};
 ghost use Rattle.operands.specs.Encode.{encode_of};
 ghost use Rattle.operands.specs.Shapes.{size_of, bits_of, shapes, shapes_of, Narrow};
 
+use insns::Insn;
 use decode::form::form;
-use insns::Made;
 use insns::bits::signed_bits;
 use insns::fields::{
     HALF_16, HALF_24, HALF_32, SIZE_6, SIZE_8, SIZE_12, SIZE_16, SIZE_24, SIZE_32, SIZE_40, make5,
@@ -109,11 +109,11 @@ fn bits_of(s: Shape, p: u64) -> u64
 }
 
 // The word of an opcode and five operands, or Refused (9).
-pub fn encode(opcode: u64, a: u64, b: u64, c: u64, d: u64, e: u64) -> Made
+pub fn encode(opcode: u64, a: u64, b: u64, c: u64, d: u64, e: u64) -> Option<Insn>
     ensures { result ≡ encode_of opcode a b c d e }
 {
     if 76 < opcode {
-        return Made::Refused;
+        return None;
     }
     let n = opcode as u8;
     let s = shapes_of(form(n));

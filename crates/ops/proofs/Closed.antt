@@ -1,4 +1,5 @@
 -- Every result of an operator has a lent form that reads back as itself, if its operands have.
+use Rattle.std.specs.Prelude.{Option, Some, None}
 use mathlib.Core.Path.{◌≡◌, refl}
 use mathlib.Core.Bool.{Bool, true, false, cond, beq, ◌&&◌}
 use Prim.Native.Nat.{ℕ, ◌+◌, ◌-◌, ◌*◌, ◌≤◌, ◌<◌, ◌^◌}
@@ -26,25 +27,23 @@ use Rattle.float.specs.Bits.{Real, nan, inf, fin, infinity, quiet}
 use Rattle.float.specs.Float.{with_sign_bit, rounded, unlike, sum, negated}
 use Rattle.float.specs.declared.Op as FloatOp
 use Rattle.float.specs.declared.Op.TheVariants as FO
-use Rattle.float.specs.declared.Whole.{Whole}
-use Rattle.float.specs.declared.Whole.TheVariants.{Is, Wide}
 use Rattle.value.specs.Value.{Datum, nil, bool, int, float}
-use Rattle.value.specs.Answer.{Result, is, fault, is_number}
+use Rattle.value.specs.Answer.{Answer, is, fault, is_number}
 use Rattle.ops.specs.Arith.{of_numbers, from_int, converted, floats, as_floats, arith_of, whole_of}
 use Rattle.ops.specs.Compare.{mixed, mirror, compare_numbers, compare_others, compare_of, same}
 use Rattle.ops.specs.Not.{not_of, negate}
 use Rattle.ops.specs.Ops.{minus_of, binary_of}
 use Rattle.value.proofs.RoundTrip.{Holds}
 
-abbrev pub Back : Result → Type 0
+abbrev pub Back : Answer → Type 0
 Back (is v) = Holds v
 Back (fault n) = Unit {0}
 
 -- a value's lent form reads back as itself
-pub record Held (r : Result) : Type 0 where
+pub record Held (r : Answer) : Type 0 where
   pub back : Back r
 
-pub picks : (b : Bool) {x y : Result} → Held x → Held y → Held (cond b x y)
+pub picks : (b : Bool) {x y : Answer} → Held x → Held y → Held (cond b x y)
 picks true h k = h
 picks false h k = k
 
@@ -184,11 +183,11 @@ operates FO.Sub x y = subs x y
 operates FO.Mul x y = muls x y
 operates FO.Div x y = divs x y
 
-made : (op : FloatOp.Op) (x y : Whole) → Held (floats op x y)
+made : (op : FloatOp.Op) (x y : Option ℕ) → Held (floats op x y)
 unfolding floats
-made op (Is p) (Is q) = record { back = operates op (Bits.read p) (Bits.read q) }
-made op (Is p) Wide = record { back = tt }
-made op Wide y = record { back = tt }
+made op (Some p) (Some q) = record { back = operates op (Bits.read p) (Bits.read q) }
+made op (Some p) None = record { back = tt }
+made op None y = record { back = tt }
 
 pub as_floats_lem : (op : FloatOp.Op) (x y : Datum) → Held (as_floats op x y)
 unfolding as_floats of_numbers
@@ -251,7 +250,7 @@ nots (bool b) = record { back = tt }
 nots (int n) = record { back = tt }
 nots (float p) = record { back = tt }
 
-pub negates : (r : Result) → Held (negate r)
+pub negates : (r : Answer) → Held (negate r)
 unfolding negate
 negates (is v) = nots v
 negates (fault n) = record { back = tt }

@@ -14,14 +14,14 @@ use Rattle.float.specs.Order.{order}
 use Rattle.float.specs.Bits.{read}
 use Rattle.float.specs.declared.Op as FloatOp
 use Rattle.value.specs.Value.{int, float}
-use Rattle.value.specs.Answer.{Result, is, fault, truth, is_number}
+use Rattle.value.specs.Answer.{Answer, is, fault, truth, is_number}
 use Rattle.ops.specs.Arith.{from_int, converted, floats, arith_of}
 use Rattle.ops.specs.Compare.{compare_numbers, compare_of}
 use Rattle.ops.specs.Ops.{add_of, sub_of, mul_of}
 
 -- ---- Add, Sub, Mul: two Ints give the exact Int or 21
 
-abbrev exact_or21 : ℤ → Result
+abbrev exact_or21 : ℤ → Answer
 exact_or21 z = cond (in_range z) (is (int z)) (fault overflow)
 
 picked : (t : Bool) (z : ℤ) → from_int (I.checked t z) ≡ cond t (is (int z)) (fault overflow)

@@ -7,9 +7,8 @@ ghost use Rattle.ops.specs.Arith as Ops;
 ghost use Rattle.ops.specs.Code.{operate_of, ints_of};
 ghost use Rattle.int64.specs.Int.{outcome_of};
 
-use float::Whole;
-use int64::Num;
-use value::answer::{Answer, Number, both_numbers, number_of};
+use faults::Fault;
+use value::answer::{Number, both_numbers, number_of};
 use value::{Value, of_pattern};
 
 // Two Ints by their patterns, or not two Ints.
@@ -27,53 +26,53 @@ pub enum How {
     Ints(int64::Op),
 }
 
-fn int_answer(n: Num) -> Answer
+fn int_answer(n: Result<u64, Fault>) -> Result<Value, Fault>
     ensures { result_of result ≡ Ops.from_int (outcome_of n) }
 {
     match n {
-        Num::Is(p) => Answer::Is(Value::Int(int64::sign::signed(p))),
-        Num::Fault(f) => Answer::Fault(f),
+        Ok(p) => Ok(Value::Int(int64::sign::signed(p))),
+        Err(f) => Err(f),
     }
 }
 
-fn float_answer(p: u64) -> Answer
+fn float_answer(p: u64) -> Result<Value, Fault>
     ensures { result_of result ≡ is (float p) }
 {
-    Answer::Is(of_pattern(p))
+    Ok(of_pattern(p))
 }
 
 // The conversion rule of arithmetic: the float that a number is.
-fn float_of(a: Number) -> Whole
+fn float_of(a: Number) -> Option<u64>
     ensures { result ≡ Ops.converted (shown a) }
 {
     match a {
         Number::Int(p) => float::from_int(p),
-        Number::Float(p) => Whole::Is(p),
-        Number::Other => Whole::Wide,
+        Number::Float(p) => Some(p),
+        Number::Other => None,
     }
 }
 
 // Two floats, of which one or both may not exist.
-fn floats(op: float::Op, x: Whole, y: Whole) -> Answer
+fn floats(op: float::Op, x: Option<u64>, y: Option<u64>) -> Result<Value, Fault>
     ensures { result_of result ≡ Ops.floats op x y }
 {
     match x {
-        Whole::Is(p) => match y {
-            Whole::Is(q) => float_answer(float::operate(op, p, q)),
-            Whole::Wide => Answer::Fault(faults::NOT_EXACT),
+        Some(p) => match y {
+            Some(q) => float_answer(float::operate(op, p, q)),
+            None => Err(Fault::NotExact),
         },
-        Whole::Wide => Answer::Fault(faults::NOT_EXACT),
+        None => Err(Fault::NotExact),
     }
 }
 
 // Kinds are looked at before anything is converted: 20 comes before 23.
-fn as_floats(op: float::Op, a: Number, b: Number) -> Answer
+fn as_floats(op: float::Op, a: Number, b: Number) -> Result<Value, Fault>
     ensures { result_of result ≡ Ops.as_floats op (shown a) (shown b) }
 {
     if both_numbers(a, b) {
         return floats(op, float_of(a), float_of(b));
     }
-    Answer::Fault(faults::WRONG_KIND)
+    Err(Fault::WrongKind)
 }
 
 fn ints_of(a: Number, b: Number) -> Ints
@@ -90,7 +89,7 @@ fn ints_of(a: Number, b: Number) -> Ints
     }
 }
 
-fn operate_numbers(how: How, a: Number, b: Number) -> Answer
+fn operate_numbers(how: How, a: Number, b: Number) -> Result<Value, Fault>
     ensures { result_of result ≡ operate_of how (shown a) (shown b) }
 {
     let w = ints_of(a, b);
@@ -102,13 +101,13 @@ fn operate_numbers(how: How, a: Number, b: Number) -> Answer
         How::Floats(f) => as_floats(f, a, b),
         How::Ints(i) => match w {
             Ints::Are(p, q) => int_answer(int64::operate(i, p, q)),
-            Ints::Not => Answer::Fault(faults::WRONG_KIND),
+            Ints::Not => Err(Fault::WrongKind),
         },
     }
 }
 
 // Every arithmetic and bit operator.
-pub fn operate(how: How, a: Value, b: Value) -> Answer
+pub fn operate(how: How, a: Value, b: Value) -> Result<Value, Fault>
     ensures { result_of result ≡ operate_of how (meaning a) (meaning b) }
 {
     operate_numbers(how, number_of(a), number_of(b))

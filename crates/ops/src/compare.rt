@@ -7,8 +7,9 @@ ghost use Rattle.value.specs.Answer.{result_of};
 ghost use Rattle.value.specs.Seen.{shown};
 ghost use Rattle.ops.specs.Compare as Ops;
 
+use faults::Fault;
 use int64::order::Cmp;
-use value::answer::{Answer, Number, bool_answer, both_numbers, number_of};
+use value::answer::{Number, bool_answer, both_numbers, number_of};
 use value::{Value, kind_of, payload_of};
 
 // The comparison with its operands exchanged.
@@ -26,27 +27,27 @@ fn mirror(op: Cmp) -> Cmp
 }
 
 // The Int of pattern p with the Float of pattern q, as the numbers that they are.
-fn mixed(op: Cmp, p: u64, q: u64) -> Answer
+fn mixed(op: Cmp, p: u64, q: u64) -> Result<Value, Fault>
     ensures { result_of result ≡ Ops.mixed op (to_z w64 p) q }
 {
     bool_answer(float::standing::stands(op, p, q))
 }
 
-fn compare_numbers(op: Cmp, a: Number, b: Number) -> Answer
+fn compare_numbers(op: Cmp, a: Number, b: Number) -> Result<Value, Fault>
     ensures { result_of result ≡ Ops.compare_numbers op (shown a) (shown b) }
 {
     match a {
         Number::Int(p) => match b {
             Number::Int(q) => bool_answer(int64::order::compare(op, p, q)),
             Number::Float(q) => mixed(op, p, q),
-            Number::Other => Answer::Fault(faults::WRONG_KIND),
+            Number::Other => Err(Fault::WrongKind),
         },
         Number::Float(p) => match b {
             Number::Int(q) => mixed(mirror(op), q, p),
             Number::Float(q) => bool_answer(float::order::compare(op, p, q)),
-            Number::Other => Answer::Fault(faults::WRONG_KIND),
+            Number::Other => Err(Fault::WrongKind),
         },
-        Number::Other => Answer::Fault(faults::WRONG_KIND),
+        Number::Other => Err(Fault::WrongKind),
     }
 }
 
@@ -58,20 +59,20 @@ fn same_pair(k: u8, p: u64, l: u8, q: u64) -> bool
 }
 
 // Two values of which one is no number: they are equal or not, and have no order.
-fn compare_others(op: Cmp, equal: bool) -> Answer
+fn compare_others(op: Cmp, equal: bool) -> Result<Value, Fault>
     ensures { result_of result ≡ Ops.compare_others op equal }
 {
     match op {
         Cmp::Eq => bool_answer(equal),
         Cmp::Ne => bool_answer(!equal),
-        Cmp::Lt => Answer::Fault(faults::WRONG_KIND),
-        Cmp::Le => Answer::Fault(faults::WRONG_KIND),
-        Cmp::Gt => Answer::Fault(faults::WRONG_KIND),
-        Cmp::Ge => Answer::Fault(faults::WRONG_KIND),
+        Cmp::Lt => Err(Fault::WrongKind),
+        Cmp::Le => Err(Fault::WrongKind),
+        Cmp::Gt => Err(Fault::WrongKind),
+        Cmp::Ge => Err(Fault::WrongKind),
     }
 }
 
-pub fn compare(op: Cmp, a: Value, b: Value) -> Answer
+pub fn compare(op: Cmp, a: Value, b: Value) -> Result<Value, Fault>
     ensures { result_of result ≡ Ops.compare_of op (meaning a) (meaning b) }
 {
     let x = number_of(a);

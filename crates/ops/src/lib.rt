@@ -11,14 +11,14 @@ ghost use Rattle.value.specs.Value.{meaning};
 ghost use Rattle.ops.specs.Ops as Ops;
 ghost use Rattle.value.specs.Answer.{result_of};
 
+use faults::Fault;
 use crate::arith::{How, operate};
 use crate::compare::compare;
 use int64::order::Cmp;
 use value::Value;
-use value::answer::Answer;
 
 // Mul by Int -1.
-pub fn minus(v: Value) -> Answer
+pub fn minus(v: Value) -> Result<Value, Fault>
     ensures { result_of result ≡ Ops.minus_of (meaning v) }
 {
     let minus_one = Value::Int(-1);
@@ -26,7 +26,7 @@ pub fn minus(v: Value) -> Answer
 }
 
 // The binary operator of a node kind. a > b is b < a, and a >= b is b <= a: neither can then fail to agree with Lt and Le, also for a NaN.
-pub fn binary(kind: u64, a: Value, b: Value) -> Answer
+pub fn binary(kind: u64, a: Value, b: Value) -> Result<Value, Fault>
     ensures { result_of result ≡ Ops.binary_of kind (meaning a) (meaning b) }
 {
     match kind {
@@ -46,6 +46,6 @@ pub fn binary(kind: u64, a: Value, b: Value) -> Answer
         table::LE => compare(Cmp::Le, a, b),
         table::GT => compare(Cmp::Lt, b, a),
         table::GE => compare(Cmp::Le, b, a),
-        _ => Answer::Fault(faults::WRONG_KIND),
+        _ => Err(Fault::WrongKind),
     }
 }

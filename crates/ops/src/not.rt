@@ -4,27 +4,28 @@ ghost use Rattle.value.specs.Value.{meaning};
 ghost use Rattle.value.specs.Answer.{result_of};
 ghost use Rattle.ops.specs.Not.{not_of, negate};
 
+use faults::Fault;
 use value::Value;
-use value::answer::{Answer, bool_answer};
+use value::answer::bool_answer;
 
-pub fn not(v: Value) -> Answer
+pub fn not(v: Value) -> Result<Value, Fault>
     ensures { result_of result ≡ not_of (meaning v) }
 {
     match v {
         Value::Bool(b) => bool_answer(!b),
-        Value::Nil => Answer::Fault(faults::WRONG_KIND),
-        Value::Int(_) => Answer::Fault(faults::WRONG_KIND),
-        Value::Float(_) => Answer::Fault(faults::WRONG_KIND),
-        Value::Nan(_) => Answer::Fault(faults::WRONG_KIND),
+        Value::Nil => Err(Fault::WrongKind),
+        Value::Int(_) => Err(Fault::WrongKind),
+        Value::Float(_) => Err(Fault::WrongKind),
+        Value::Nan(_) => Err(Fault::WrongKind),
     }
 }
 
 // Not of an answer, for a branch whose sense is turned.
-pub fn negated(r: Answer) -> Answer
+pub fn negated(r: Result<Value, Fault>) -> Result<Value, Fault>
     ensures { result_of result ≡ negate (result_of r) }
 {
     match r {
-        Answer::Is(v) => not(v),
-        Answer::Fault(n) => Answer::Fault(n),
+        Ok(v) => not(v),
+        Err(n) => Err(n),
     }
 }

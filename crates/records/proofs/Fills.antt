@@ -4,6 +4,7 @@
 --     check-is         the prefix's number is the records' number
 --     evaluate-is      the prefix's answer is the records' answer
 --     same_number, same_answer     with room for the records, however many they are, both are the word table's
+use Rattle.std.specs.Prelude.{Option, None}
 use Prim.Native.Nat.{ℕ, zero, suc, ◌+◌, ◌*◌, ◌/◌, ◌%◌, ◌≤◌, ◌<◌, min}
 use native.Mathlib.Omega.{arith}
 use mathlib.Core.Path.{◌≡◌, refl, sym, ◌∙◌, ap}
@@ -16,8 +17,6 @@ use Rattle.faults.specs.Faults.{fault, ◌or_else◌}
 use Rattle.faults.specs.Limits.{max_nodes}
 use Rattle.faults.specs.Numbers.{bad_shape}
 use Rattle.table.specs.Table.{shape_fault, check_of}
-use Rattle.table.specs.declared.Dest.{Dest}
-use Rattle.table.specs.declared.Dest.TheVariants.{None}
 use Rattle.eval.specs.Evaluate.{unless, evaluate_of}
 use Rattle.compile.specs.Compile.{accepted, compile_of}
 use Rattle.records.specs.Records.{room_fault, compile_nodes, flat, holding, flattened, check_nodes, evaluate_nodes}
@@ -95,21 +94,21 @@ pub length-flattened : (ds : List Node) (ws : List ℕ) → length (flattened ds
 length-flattened ds ws = ap length (sym (flattened-is ds ws)) ∙ length-filled ds ws (copied_of (length ds) (length ws))
 
 -- not refused: the prefix is the records
-prefix-flat : (ds : List Node) (ws : List ℕ) → room_fault (length ds) (length ws) ≡ 0 → take (4 * length ds) (flattened ds ws) ≡ flat ds
+prefix-flat : (ds : List Node) (ws : List ℕ) → room_fault (length ds) (length ws) ≡ Ok tt → take (4 * length ds) (flattened ds ws) ≡ flat ds
 unfolding flattened holding
 prefix-flat ds ws z = rw z (prefix ds (drop (4 * length ds) ws))
 
 -- Whatever is asked of a table once the room was looked at: of the prefix and of the records it is the same. A refusal (`stop`) does not look at the table.
-module _ {A : Type 0} (guard : ℕ → A → A) (stop : (f : ℕ) (x y : A) → guard (suc f) x ≡ guard (suc f) y) (ask : List ℕ → A) (ds : List Node) (ws : List ℕ) where
+module _ {A : Type 0} (guard : ℕ → A → A) (stop : (f : Fault) (x y : A) → guard (suc f) x ≡ guard (suc f) y) (ask : List ℕ → A) (ds : List Node) (ws : List ℕ) where
   prefix-is : guard (room_fault (length ds) (length (flattened ds ws))) (ask (take (4 * length ds) (flattened ds ws))) ≡ guard (room_fault (length ds) (length ws)) (ask (flat ds))
   prefix-is = rw (length-flattened ds ws) (by-fault (room_fault (length ds) (length ws)) refl)
     where
-      by-fault : (f : ℕ) → room_fault (length ds) (length ws) ≡ f → guard f (ask (take (4 * length ds) (flattened ds ws))) ≡ guard f (ask (flat ds))
+      by-fault : (f : Fault) → room_fault (length ds) (length ws) ≡ f → guard f (ask (take (4 * length ds) (flattened ds ws))) ≡ guard f (ask (flat ds))
       by-fault zero e = ap (λ (us : List ℕ). guard 0 (ask us)) (prefix-flat ds ws e)
       by-fault (suc f) e = stop f _ _
 
 module _ (ds : List Node) (ws : List ℕ) (p l : ℕ) where
-  pub check-is : (dest : Dest) → check_prefix (flattened ds ws) (length ds) p l dest ≡ check_nodes ds (length ws) p l dest
+  pub check-is : (dest : Option ℕ) → check_prefix (flattened ds ws) (length ds) p l dest ≡ check_nodes ds (length ws) p l dest
   unfolding check_prefix check_nodes ◌or_else◌
   check-is dest = prefix-is ◌or_else◌ (λ f x y. refl) (λ us. check_of us p l dest) ds ws
 
@@ -117,7 +116,7 @@ module _ (ds : List Node) (ws : List ℕ) (p l : ℕ) where
   unfolding evaluate_prefix evaluate_nodes unless
   evaluate-is ks ps = prefix-is unless (λ f x y. refl) (λ us. evaluate_of us p l ks ps) ds ws
 
-  pub compile-is : (dest : Dest) (c k q : ℕ) → compile_prefix (flattened ds ws) (length ds) p l dest c k q ≡ compile_nodes ds (length ws) p l dest c k q
+  pub compile-is : (dest : Option ℕ) (c k q : ℕ) → compile_prefix (flattened ds ws) (length ds) p l dest c k q ≡ compile_nodes ds (length ws) p l dest c k q
   unfolding compile_prefix compile_nodes
   compile-is dest c k q = prefix-is accepted (λ f x y. refl) (λ us. compile_of us p l dest max_nodes c (min k q)) ds ws
 
@@ -135,13 +134,13 @@ one_of_three true b c e = refl
 one_of_three false true c e = refl
 one_of_three false false c e = rw e refl
 
-too_many : (ds : List Node) (p l : ℕ) (dest : Dest) → max_nodes < length ds → check_of (flat ds) p l dest ≡ bad_shape
+too_many : (ds : List Node) (p l : ℕ) (dest : Option ℕ) → max_nodes < length ds → check_of (flat ds) p l dest ≡ bad_shape
 unfolding check_of shape_fault ◌or_else◌
 too_many ds p l dest m = rw (one_of_three (eqb (length (flat ds)) 0) (not (eqb (length (flat ds) % 4) 0)) (ltb max_nodes (length (flat ds) / 4))
     (lt-ltb max_nodes (length (flat ds) / 4) (let all : length (flat ds) ≡ 4 * length ds = length-flat ds in omega (arith, all, m)))) refl
 
 module _ (ds : List Node) (words p l : ℕ) (room : length ds ≤ words / 4) where
-  pub same_number : (dest : Dest) → check_nodes ds words p l dest ≡ check_of (flat ds) p l dest
+  pub same_number : (dest : Option ℕ) → check_nodes ds words p l dest ≡ check_of (flat ds) p l dest
   unfolding check_nodes ◌or_else◌
   same_number dest = either max_nodes (length ds)
       (λ m. rw (sym (many (length ds) words m)) (sym (too_many ds p l dest m)))
@@ -153,7 +152,7 @@ module _ (ds : List Node) (words p l : ℕ) (room : length ds ≤ words / 4) whe
       (λ m. rw (sym (many (length ds) words m), too_many ds p l None m) refl)
       (λ n. rw (sym (fits (length ds) words n room)) refl)
 
-  pub same-compile : (dest : Dest) (c k q : ℕ) → compile_nodes ds words p l dest c k q ≡ compile_of (flat ds) p l dest max_nodes c (min k q)
+  pub same-compile : (dest : Option ℕ) (c k q : ℕ) → compile_nodes ds words p l dest c k q ≡ compile_of (flat ds) p l dest max_nodes c (min k q)
   unfolding compile_nodes compile_of
   same-compile dest c k q = either max_nodes (length ds)
       (λ m. rw (sym (many (length ds) words m), too_many ds p l dest m) refl)

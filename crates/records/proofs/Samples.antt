@@ -1,11 +1,11 @@
 -- A sample table of records, computed from the definitions alone.
+use Rattle.std.specs.Prelude.{Some, None}
 use mathlib.Core.Path.{◌≡◌, refl}
 use mathlib.Core.List.{List, [], ◌∷◌}
 use Prim.Native.Nat.{ℕ}
 use Rattle.faults.specs.Faults.{fault, ◌or_else◌}
 use Rattle.faults.specs.Numbers.{bad_shape, not_local, no_room}
 use Rattle.table.specs.Table.{arity, children, span_fault, node_fault, nodes_fault, shape_fault, layout_fault, dest_fault, last_fault, check_of}
-use Rattle.table.specs.declared.Dest.TheVariants.{None, Reg}
 use Rattle.records.specs.Records.{room_fault, flat, holding, flattened, check_nodes}
 use Rattle.records.specs.declared.Node.{Node}
 
@@ -17,7 +17,7 @@ sum : List Node
 sum = node 5 0 0 1 ∷ node 3 5 1 1 ∷ node 13 0 0 2 ∷ []
 
 -- with room for its twelve words it has the word table's number, with less 7; no record at all is 1
-numbers : (check_nodes sum 12 1 0 None ≡ 0) × (check_nodes sum 12 1 0 (Reg 1) ≡ not_local) × (check_nodes sum 11 1 0 None ≡ no_room) × (check_nodes [] 0 1 0 None ≡ bad_shape)
+numbers : (check_nodes sum 12 1 0 None ≡ 0) × (check_nodes sum 12 1 0 (Some 1) ≡ not_local) × (check_nodes sum 11 1 0 None ≡ no_room) × (check_nodes [] 0 1 0 None ≡ bad_shape)
 unfolding sum check_nodes flat room_fault check_of shape_fault layout_fault dest_fault nodes_fault node_fault span_fault children arity last_fault fault ◌or_else◌
 numbers = (refl, refl, refl, refl)
 

@@ -1,11 +1,10 @@
 -- A table of node records, with the answers of the word table that has the same nodes. The caller lends room for its words.
-use Rattle.std.specs.Prelude.{ℕ, zero, suc, ◌*◌, ◌/◌, min, List, [], ◌∷◌, ◌++◌, ltb, length, drop}
+use Rattle.std.specs.Prelude.{ℕ, zero, suc, ◌*◌, ◌/◌, min, List, [], ◌∷◌, ◌++◌, ltb, length, drop, Option}
 use Rattle.faults.specs.Faults.{fault, ◌or_else◌}
 use Rattle.faults.specs.Limits.{max_nodes}
 use Rattle.faults.specs.Numbers.{bad_shape, no_room}
 use Rattle.table.specs.Table.{check_of}
-use Rattle.table.specs.declared.Dest.{Dest}
-use Rattle.value.specs.Answer.{Result}
+use Rattle.value.specs.Answer.{Answer}
 use Rattle.eval.specs.Evaluate.{unless, evaluate_of}
 use Rattle.emit.specs.State.{Res, State}
 use Rattle.compile.specs.Compile.{accepted, compile_of}
@@ -29,14 +28,14 @@ unfoldable pub flattened : List Node → List ℕ → List ℕ
 flattened ds ws = holding (room_fault (length ds) (length ws)) (flat ds ++ drop (4 * length ds) ws) ws
 
 -- the number of a table of records, with so many words lent
-unfoldable pub check_nodes : List Node → ℕ → ℕ → ℕ → Dest → ℕ
+unfoldable pub check_nodes : List Node → ℕ → ℕ → ℕ → Option ℕ → ℕ
 check_nodes ds words params locals dest = room_fault (length ds) words or_else check_of (flat ds) params locals dest
 
 -- the answer of a table of records, with so many words lent
-unfoldable pub evaluate_nodes : List Node → ℕ → ℕ → ℕ → List ℕ → List ℕ → Result
+unfoldable pub evaluate_nodes : List Node → ℕ → ℕ → ℕ → List ℕ → List ℕ → Answer
 evaluate_nodes ds words params locals ks ps = unless (room_fault (length ds) words) (evaluate_of (flat ds) params locals ks ps)
 
 -- what a table of records compiles to, with so many words lent, and the room that a compile asks for
-unfoldable pub compile_nodes : List Node → ℕ → ℕ → ℕ → Dest → ℕ → ℕ → ℕ → Res (ℕ × State)
+unfoldable pub compile_nodes : List Node → ℕ → ℕ → ℕ → Option ℕ → ℕ → ℕ → ℕ → Res (ℕ × State)
 compile_nodes ds words params locals dest c k p =
     accepted (room_fault (length ds) words) (compile_of (flat ds) params locals dest max_nodes c (min k p))

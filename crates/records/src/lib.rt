@@ -10,9 +10,9 @@ ghost use Rattle.compile.specs.Buffers.{Compiles};
 ghost use Rattle.records.specs.Records.{flattened, check_nodes, evaluate_nodes, compile_nodes};
 ghost use Rattle.records.specs.Copy.{copied_of, put};
 
+use faults::Fault;
+use value::Value;
 use compile::buffers::Compiled;
-use table::Dest;
-use value::answer::Answer;
 
 // A node of a table: the four words of document 01, by name.
 #[derive(Clone, Copy)]
@@ -59,7 +59,7 @@ fn flatten(nodes: &[Node], words: &mut [u64])
 
 // The number of a table of records with its layout and its destination: what `table::check::check` gives for the same nodes as words. The caller
 // lends room for four words a record; 7 where that is too little.
-pub fn check_nodes(nodes: &[Node], words: &mut [u64], params: u64, locals: u64, dest: Dest) -> u8
+pub fn check_nodes(nodes: &[Node], words: &mut [u64], params: u64, locals: u64, dest: Option<u64>) -> u8
     ensures { (result ≡ check_nodes nodes.now (length words.old) params locals dest)
         × (words.new ≡ flattened nodes.now words.old) }
 {
@@ -76,7 +76,7 @@ pub fn evaluate_nodes(
     locals: u64,
     kinds: &[u8],
     payloads: &[u64],
-) -> Answer
+) -> Result<Value, Fault>
     ensures { (result_of result
         ≡ evaluate_nodes nodes.now (length words.old) params locals kinds.now payloads.now)
         × (words.new ≡ flattened nodes.now words.old) }
@@ -92,11 +92,11 @@ pub fn compile_nodes(
     words: &mut [u64],
     params: u64,
     locals: u64,
-    dest: Dest,
+    dest: Option<u64>,
     code: &mut [u64],
     kinds: &mut [u8],
     payloads: &mut [u64],
-) -> Compiled
+) -> Result<Compiled, Fault>
     ensures { (Compiles result (compile_nodes nodes.now (length words.old) params locals dest
         (length code.old) (length kinds.old) (length payloads.old))
         code.new kinds.new payloads.new

@@ -6,25 +6,25 @@ ghost use Rattle.compile.specs.Buffers.{Compiles};
 ghost use Rattle.records.specs.Prefix.{check_prefix, evaluate_prefix, compile_prefix};
 ghost use Rattle.records.specs.Records.{room_fault};
 
+use faults::Fault;
+use value::Value;
 use compile::buffers::Compiled;
-use table::Dest;
-use value::answer::Answer;
 
 // Of so many records into so many words: 1 where the records are too many for any table, 7 where the words have no room for them.
 pub fn room_fault(nodes: usize, words: usize) -> u8
     ensures { result ≡ room_fault nodes words }
 {
     if faults::MAX_NODES < nodes {
-        return faults::BAD_SHAPE;
+        return Fault::BadShape;
     }
     if words / 4 < nodes {
-        return faults::NO_ROOM;
+        return Fault::NoRoom;
     }
     faults::NONE
 }
 
 // The check of the first n records that the words hold. The entries pass on words that they are lent by `&mut`, so `&mut` it is; the words stay as they are.
-pub fn check_prefix(words: &mut [u64], n: usize, params: u64, locals: u64, dest: Dest) -> u8
+pub fn check_prefix(words: &mut [u64], n: usize, params: u64, locals: u64, dest: Option<u64>) -> u8
     ensures { (result ≡ check_prefix words.old n params locals dest) × (words.new ≡ words.old) }
 {
     let f = room_fault(n, words.len());
@@ -42,13 +42,13 @@ pub fn evaluate_prefix(
     locals: u64,
     kinds: &[u8],
     payloads: &[u64],
-) -> Answer
+) -> Result<Value, Fault>
     ensures { (result_of result ≡ evaluate_prefix words.old n params locals kinds.now payloads.now)
         × (words.new ≡ words.old) }
 {
     let f = room_fault(n, words.len());
     if f != faults::NONE {
-        return Answer::Fault(f);
+        return Err(f);
     }
     eval::evaluate(&words[..4 * n], params, locals, kinds, payloads)
 }
@@ -59,11 +59,11 @@ pub fn compile_prefix(
     n: usize,
     params: u64,
     locals: u64,
-    dest: Dest,
+    dest: Option<u64>,
     code: &mut [u64],
     kinds: &mut [u8],
     payloads: &mut [u64],
-) -> Compiled
+) -> Result<Compiled, Fault>
     ensures { (Compiles result (compile_prefix words.old n params locals dest
         (length code.old) (length kinds.old) (length payloads.old))
         code.new kinds.new payloads.new

@@ -1,22 +1,22 @@
 -- Sample counters, computed from the definitions alone.
+use Rattle.std.specs.Prelude.{Ok, Err}
 use mathlib.Core.Path.{◌≡◌, refl}
 use Prim.Native.Nat.{ℕ}
 use Rattle.faults.specs.Numbers.{no_register}
 use Rattle.table.specs.Table.{temp_base_of}
 use Rattle.regs.specs.Counter.{fresh, allocated, extended}
 use Rattle.regs.specs.declared.Regs.{Regs}
-use Rattle.regs.specs.declared.Got.TheVariants.{Reg, Refused}
 
 abbrev counter : ℕ → ℕ → ℕ → Regs
 counter base next max = record { temp_base = base; next = next; max = max }
 
 -- document 01's case 11, one register for Nil: with base 65,534 the frame is 65,535, and with base 65,535 it is 5, with the counter as it was
-nil : (allocated (fresh 65534) 1 ≡ record { got = Reg 65534; regs = counter 65534 65535 65535 }) × (allocated (fresh 65535) 1 ≡ record { got = Refused no_register; regs = fresh 65535 })
+nil : (allocated (fresh 65534) 1 ≡ record { got = Ok 65534; regs = counter 65534 65535 65535 }) × (allocated (fresh 65535) 1 ≡ record { got = Err no_register; regs = fresh 65535 })
 unfolding fresh temp_base_of allocated
 nil = (refl, refl)
 
 -- no variables: the first temporary is register 1
-first : allocated (fresh 0) 1 ≡ record { got = Reg 1; regs = counter 1 2 2 }
+first : allocated (fresh 0) 1 ≡ record { got = Ok 1; regs = counter 1 2 2 }
 unfolding fresh temp_base_of allocated
 first = refl
 

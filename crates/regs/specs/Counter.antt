@@ -1,19 +1,18 @@
 -- The register counter: what each operation makes of it. A refusal, 5, leaves it as it was.
-use Rattle.std.specs.Prelude.{ℕ, ◌+◌, max, cond, ltb}
+use Rattle.faults.specs.declared.Fault.{Fault}
+use Rattle.std.specs.Prelude.{ℕ, ◌+◌, max, cond, ltb, Result, Ok, Err}
 use Rattle.faults.specs.Faults.{fault}
 use Rattle.faults.specs.Limits.{max_registers}
 use Rattle.faults.specs.Numbers.{no_register}
 use Rattle.table.specs.Table.{temp_base_of}
 use Rattle.regs.specs.declared.Regs.{Regs}
-use Rattle.regs.specs.declared.Got.{Got}
 use Rattle.regs.specs.declared.Alloc.{Alloc}
 use Rattle.regs.specs.declared.Extended.{Extended}
-use Rattle.regs.specs.declared.Got.TheVariants.{Reg, Refused}
 
 -- document 01's number of an answer: 0 with a register, else the refusal's
-abbrev pub number_of : Got → ℕ
-number_of (Reg r) = 0
-number_of (Refused n) = n
+abbrev pub number_of : Result ℕ Fault → ℕ
+number_of (Ok r) = 0
+number_of (Err n) = n
 
 -- a run that ends past the last register is refused
 unfoldable pub end_fault : ℕ → ℕ
@@ -31,8 +30,8 @@ reached r next = record { temp_base = r.temp_base; next = next; max = max r.max 
 unfoldable pub allocated : Regs → ℕ → Alloc
 allocated r n =
     cond (ltb max_registers (r.next + n))
-    (record { got = Refused no_register; regs = r })
-    (record { got = Reg r.next; regs = reached r (r.next + n) })
+    (record { got = Err no_register; regs = r })
+    (record { got = Ok r.next; regs = reached r (r.next + n) })
 
 -- every register from top on is free again
 abbrev pub freed : Regs → ℕ → Regs

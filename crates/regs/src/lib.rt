@@ -5,6 +5,8 @@
 ghost use Rattle.std.specs.Prelude.{◌≡◌, ◌+◌, max};
 ghost use Rattle.regs.specs.Counter.{fresh, end_fault, allocated, freed, extended, number_of};
 
+use faults::Fault;
+
 // Parameters come first, then locals, then temporaries, which are handed out and given back in stack order.
 #[derive(Clone, Copy)]
 pub struct Regs {
@@ -16,17 +18,10 @@ pub struct Regs {
     pub max: u16,
 }
 
-// A register, or the number of a refusal.
-#[derive(Clone, Copy)]
-pub enum Got {
-    Reg(u16),
-    Refused(u8),
-}
-
 // What an allocation gave, and the counter after it.
 #[derive(Clone, Copy)]
 pub struct Alloc {
-    pub got: Got,
+    pub got: Result<u16, Fault>,
     pub regs: Regs,
 }
 
@@ -63,13 +58,13 @@ impl Regs {
         let end = self.next as u64 + n as u64;
         if faults::MAX_REGISTERS < end {
             return Alloc {
-                got: Got::Refused(faults::NO_REGISTER),
+                got: Err(Fault::NoRegister),
                 regs: self,
             };
         }
         let next = end as u16;
         Alloc {
-            got: Got::Reg(self.next),
+            got: Ok(self.next),
             regs: Regs {
                 temp_base: self.temp_base,
                 next: next,
@@ -79,7 +74,7 @@ impl Regs {
     }
 
     // Reserves a run of n registers: the first of them, or 5, and then the counter is as it was.
-    pub fn alloc_n(&mut self, n: u16) -> Got
+    pub fn alloc_n(&mut self, n: u16) -> Result<u16, Fault>
         ensures { (number_of result ≡ end_fault (self.old.next + n))
             × (result ≡ (allocated self.old n).got)
             × (self.new ≡ (allocated self.old n).regs) }
@@ -114,7 +109,7 @@ impl Regs {
         let end = start as u64 + n as u64;
         if faults::MAX_REGISTERS < end {
             return Extended {
-                fault: faults::NO_REGISTER,
+                fault: Fault::NoRegister,
                 regs: self,
             };
         }

@@ -6,9 +6,10 @@ ghost use Rattle.fast.specs.Plan.{Within};
 ghost use Rattle.machine.specs.Step.{after, step_of};
 ghost use Rattle.machine.specs.Run.{out, run_from, run_of, run_part_of};
 
+use faults::Fault;
 use fast::step::{NOT_TAKEN, quick_step};
 use machine::run::Ran;
-use machine::step::{Stepped, step};
+use machine::step::step;
 use value::pairs::all_well;
 
 // The least of three: a bound on the registers or slots that the quick step looks at. Any smaller one would do, at the cost of speed alone.
@@ -39,7 +40,7 @@ fn next(
     slots: usize,
     slot_kinds: &[u8],
     slot_payloads: &[u64],
-) -> Stepped
+) -> Result<usize, Fault>
     requires at_in_bounds { at < length words.now }
     requires within { Within 16 room kinds.old payloads.old }
     requires within_2 { Within 32 slots slot_kinds.now slot_payloads.now }
@@ -59,7 +60,7 @@ fn next(
     if p == NOT_TAKEN {
         return step(words, at, kinds, payloads, slot_kinds, slot_payloads);
     }
-    Stepped::Moved(p)
+    Ok(p)
 }
 
 // The steps one after the other. A stopping step is not counted, and the end comes before the budget.
@@ -83,7 +84,7 @@ fn run_from(
     while at < words.len() {
         if steps == budget {
             return Ran {
-                number: faults::BUDGET_SPENT,
+                number: Fault::BudgetSpent,
                 steps: steps,
                 position: at,
             };
@@ -100,10 +101,10 @@ fn run_from(
             slot_kinds,
             slot_payloads,
         ) {
-            Stepped::Moved(p) => {
+            Ok(p) => {
                 at = p;
             }
-            Stepped::Stopped(n) => {
+            Err(n) => {
                 return Ran {
                     number: n,
                     steps: before,
@@ -135,21 +136,21 @@ pub fn run(
 {
     if words.len() < start {
         return Ran {
-            number: faults::OUT_OF_RANGE,
+            number: Fault::OutOfRange,
             steps: 0,
             position: start,
         };
     }
     if !all_well(kinds, payloads) {
         return Ran {
-            number: faults::ILL_FORMED,
+            number: Fault::IllFormed,
             steps: 0,
             position: 0,
         };
     }
     if !all_well(slot_kinds, slot_payloads) {
         return Ran {
-            number: faults::ILL_FORMED,
+            number: Fault::IllFormed,
             steps: 0,
             position: 0,
         };
@@ -183,14 +184,14 @@ pub fn run_part(
 {
     if end < entry {
         return Ran {
-            number: faults::OUT_OF_RANGE,
+            number: Fault::OutOfRange,
             steps: 0,
             position: entry,
         };
     }
     if store.len() < end {
         return Ran {
-            number: faults::OUT_OF_RANGE,
+            number: Fault::OutOfRange,
             steps: 0,
             position: entry,
         };

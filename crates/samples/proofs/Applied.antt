@@ -1,11 +1,11 @@
 -- The claim's premises can be met: sample 3 with a NaN, run.
+use Rattle.std.specs.Prelude.{None}
 use mathlib.Core.Path.{◌≡◌, refl}
 use mathlib.Core.List.{List, [], ◌∷◌, map}
 use Prim.Native.Nat.{ℕ, zero, suc, ◌<◌, ◌^◌}
 use native.Mathlib.Omega.{arith}
 use lib.IntN.{pos}
 use lib.ListN.{get_or}
-use Rattle.table.specs.declared.Dest.TheVariants.{None}
 use Rattle.faults.specs.Faults as Faults
 use Rattle.table.specs.Table as Table
 use Rattle.table.specs.Tree as Tree

@@ -5,7 +5,6 @@ use Prim.Native.Nat.{ℕ, zero, suc, ◌<◌, ◌^◌}
 use native.Mathlib.Omega.{arith}
 use lib.IntN.{pos}
 use lib.ListN.{get_or}
-use Rattle.table.specs.declared.Dest.TheVariants.{None}
 use Rattle.faults.specs.Faults as Faults
 use Rattle.table.specs.Table as Table
 use Rattle.table.specs.Tree as Tree

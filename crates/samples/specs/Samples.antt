@@ -1,17 +1,16 @@
 -- The starred samples of document 01 as one list: what the definitions give, and what 01 says, both written out as numbers.
-use Rattle.std.specs.Prelude.{false, List, [], ◌∷◌, ◌++◌, ℕ, zero, suc, ◌+◌, ◌-◌, ◌*◌, ◌^◌, length, get_or, pos}
+use Rattle.faults.specs.declared.Fault.{Fault}
+use Rattle.insns.specs.declared.Insn.{Insn}
+use Rattle.std.specs.Prelude.{false, List, [], ◌∷◌, ◌++◌, ℕ, zero, suc, ◌+◌, ◌-◌, ◌*◌, ◌^◌, length, get_or, pos, Option, Some, None, Result, Ok, Err}
 use Rattle.value.specs.Value.{kind_of, payload_of}
-use Rattle.value.specs.Answer.{Result, is, fault}
+use Rattle.value.specs.Answer.{Answer, is, fault}
 use Rattle.table.specs.Tree.{Tree, leaf, int, ref, binary, cmp, lt}
-use Rattle.table.specs.declared.Dest.TheVariants.{None, Reg}
-use Rattle.insns.specs.declared.Made.{Made}
 use Rattle.insns.specs.declared.op.Op.{Op}
 use Rattle.insns.specs.declared.op.Three.TheVariants as Three
 use Rattle.insns.specs.declared.op.Shift.TheVariants as Shift
 use Rattle.insns.specs.declared.op.Slot.TheVariants as Slot
 use Rattle.insns.specs.declared.op.Cmp.TheVariants as Cmp
 use Rattle.insns.specs.Insns.{made_of}
-use Rattle.decode.specs.declared.patch.Aimed.{Aimed}
 use Rattle.decode.specs.Patch.{aim_word}
 use Rattle.eval.specs.Evaluate.{evaluate_of}
 use Rattle.emit.specs.State.{Res, done, fail, State}
@@ -39,7 +38,7 @@ abbrev pub tested : Tree → List ℕ
 tested t = shown_words ((gen t).branch false 8 (start 8 8 1))
 
 -- an evaluation: 0, kind and payload; or the number of a fault
-abbrev pub valued : Result → List ℕ
+abbrev pub valued : Answer → List ℕ
 valued (is v) = 0 ∷ kind_of v ∷ payload_of v ∷ []
 valued (fault n) = n ∷ []
 
@@ -52,19 +51,19 @@ ran ks ps (done x) = ended x.0 (run_of x.1.words [] [] (length x.1.words) 0 ks p
 ran ks ps (fail n) = n ∷ []
 
 -- a branch aimed from a position at a target: 0, or the number of a refusal
-abbrev pub aim : Aimed → ℕ
-aim (Aimed.To w) = 0
-aim Aimed.Undecoded = undecoded
-aim Aimed.NotBranch = not_branch
-aim Aimed.TooFar = too_far
+abbrev pub aim : Result ℕ Fault → ℕ
+aim (Ok w) = 0
+aim (Err undecoded) = undecoded
+aim (Err not_branch) = not_branch
+aim (Err too_far) = too_far
 
 abbrev pub aimed : ℕ → ℕ → List ℕ
 aimed at target = aim (aim_word 0x33 at target) ∷ []
 
 -- the word of an instruction
-abbrev pub bits_of : Made → ℕ
-bits_of (Made.Fits w) = w.bits
-bits_of Made.Refused = 0
+abbrev pub bits_of : Option Insn → ℕ
+bits_of (Some w) = w.bits
+bits_of None = 0
 
 abbrev pub word : Op → ℕ
 word i = bits_of (made_of i)
@@ -160,7 +159,7 @@ refused =
     ∷ (answered (nots 199 ++ node 7 0 0 201) 1 8 8 8, 2 ∷ [])
     -- 4: Ref or destination not below the base
     ∷ (answered (node 5 1 0 1) 1 8 8 8, 4 ∷ [])
-    ∷ (shown (compile_of (node 0 0 0 1) 1 0 (Reg 1) 8 8 8), 4 ∷ [])
+    ∷ (shown (compile_of (node 0 0 0 1) 1 0 (Some 1) 8 8 8), 4 ∷ [])
     -- 5: parameters plus locals, or an allocation, pass 65,535 registers
     ∷ (answered (node 0 0 0 1) 65536 8 8 8, 5 ∷ [])
     ∷ (answered (node 0 0 0 1) 65535 8 8 8, 5 ∷ [])

@@ -1,4 +1,5 @@
 -- What the check's 0 says of a node and its children.
+use Rattle.std.specs.Prelude.{Option, Some, None}
 use mathlib.Core.Path.{◌≡◌, refl, sym, ◌∙◌, ap, subst}
 use mathlib.Core.Logic.{⊎_elim}
 use mathlib.Core.Bool.{Bool, true, false, not, ◌&&◌}
@@ -14,17 +15,15 @@ use Rattle.faults.specs.Limits.{max_depth}
 use Rattle.faults.specs.Faults.{fault, ◌or_else◌}
 use Rattle.table.specs.Table.{kind_at, payload_at, first_at, depth_at, child1, child2, child3, arity, kind_fault, limit_fault, children, span_fault, node_fault, nodes_fault, node_count}
 use Rattle.table.specs.Nodes.{Node, Child, Below}
-use Rattle.table.specs.declared.children.Span.{Span}
-use Rattle.table.specs.declared.children.Span.TheVariants.{Missing, Between}
 use Rattle.faults.proofs.Faults.{none_both, first, second, failed, and-true, stop, pass}
 
 -- ---- the children
 
-pub no_more : (ws : List ℕ) (e d f g : ℕ) → children ws 0 e d ≡ Between f g → (e ≡ f) × (d ≡ g)
+pub no_more : (ws : List ℕ) (e d f g : ℕ) → children ws 0 e d ≡ Some (f, g) → (e ≡ f) × (d ≡ g)
 unfolding children
 no_more ws e d f g h = (cc, cc)
 
-pub one_more : (ws : List ℕ) (n e d f g : ℕ) → children ws (suc n) e d ≡ Between f g → (0 < e) × (children ws n (first_at ws (e - 1)) (max d (depth_at ws (e - 1))) ≡ Between f g)
+pub one_more : (ws : List ℕ) (n e d f g : ℕ) → children ws (suc n) e d ≡ Some (f, g) → (0 < e) × (children ws n (first_at ws (e - 1)) (max d (depth_at ws (e - 1))) ≡ Some (f, g))
 unfolding children
 one_more ws n zero d f g h = absurd (let z : ◌≡◌ {A = ℕ} 0 1 = cc in omega arith)
 one_more ws n (suc j) d f g h = (omega arith, rw sub-one h)
@@ -36,17 +35,17 @@ turn ws zero e d h k = absurd (omega arith)
 turn ws (suc n) zero d h k = absurd (k refl)
 turn ws (suc n) (suc j) d h k = rw (sub-one, sub-one)
 
-pub turn-missing : (ws : List ℕ) (n e d : ℕ) → 0 < n → e ≡ 0 → children ws n e d ≡ Missing
+pub turn-missing : (ws : List ℕ) (n e d : ℕ) → 0 < n → e ≡ 0 → children ws n e d ≡ None
 unfolding children
 turn-missing ws zero e d h k = absurd (omega arith)
 turn-missing ws (suc n) e d h k = rw k
 
-pub turn-none : (ws : List ℕ) (n e d : ℕ) → n ≤ 0 → children ws n e d ≡ Between e d
+pub turn-none : (ws : List ℕ) (n e d : ℕ) → n ≤ 0 → children ws n e d ≡ Some (e, d)
 unfolding children
 turn-none ws zero e d h = refl
 turn-none ws (suc n) e d h = absurd (omega arith)
 
-lowest : (ws : List ℕ) (n e d f g : ℕ) → ((j : ℕ) → j < e → first_at ws j ≤ j) → children ws n e d ≡ Between f g → f ≤ e
+lowest : (ws : List ℕ) (n e d f g : ℕ) → ((j : ℕ) → j < e → first_at ws j ≤ j) → children ws n e d ≡ Some (f, g) → f ≤ e
 lowest ws zero e d f g low h = let p = no_more ws e d f g h in omega arith
 lowest ws (suc n) e d f g low h =
     let p = one_more ws n e d f g h in
@@ -58,22 +57,22 @@ lowest ws (suc n) e d f g low h =
 
 pub record NodeOk (ws : List ℕ) (base i : ℕ) : Type 0 where
   pub known : kind_at ws i ≤ 26
-  pub spans : children ws (arity (kind_at ws i)) i 0 ≡ Between (first_at ws i) (depth_at ws i - 1)
+  pub spans : children ws (arity (kind_at ws i)) i 0 ≡ Some ((first_at ws i), (depth_at ws i - 1))
   pub deep : 0 < depth_at ws i
   pub shallow : depth_at ws i ≤ max_depth
   pub refers : kind_at ws i ≡ 5 → payload_at ws i < base
 
-spans-ok : (s : Span) (f d : ℕ) → span_fault s f d ≡ 0 → (s ≡ Between f (d - 1)) × (0 < d)
+spans-ok : (s : Option (ℕ × ℕ)) (f d : ℕ) → span_fault s f d ≡ Ok tt → (s ≡ Some (f, (d - 1))) × (0 < d)
 unfolding span_fault
-spans-ok Missing f d h = absurd (omega arith)
-spans-ok (Between e g) f d h =
+spans-ok None f d h = absurd (omega arith)
+spans-ok (Some (e, g)) f d h =
     let p = none_both (fault (not (eqb f e)) 2) (fault (not (eqb d (g + 1))) 2) h in
     let q : f ≡ e = eqb-true f e (not-false (eqb f e) (failed (not (eqb f e)) 1 p.0)) in
     let r : d ≡ g + 1 = eqb-true d (g + 1) (not-false (eqb d (g + 1)) (failed (not (eqb d (g + 1))) 1 p.1)) in
     let t : g ≡ d - 1 = omega arith in
     (cc, omega arith)
 
-pub node_ok : (ws : List ℕ) (base i : ℕ) → node_fault ws base i ≡ 0 → NodeOk ws base i
+pub node_ok : (ws : List ℕ) (base i : ℕ) → node_fault ws base i ≡ Ok tt → NodeOk ws base i
 unfolding node_fault
 node_ok ws base i h =
     let p = none_both _ _ h in
@@ -89,7 +88,7 @@ node_ok ws base i h =
       refers = λ e. leb-false _ _ (and-true _ _ (failed _ 3 l.1) (eq-eqb _ _ e));
     }
 
-pub all-ok : (ws : List ℕ) (base n : ℕ) → nodes_fault ws base n ≡ 0 → (i : ℕ) → i < n → NodeOk ws base i
+pub all-ok : (ws : List ℕ) (base n : ℕ) → nodes_fault ws base n ≡ Ok tt → (i : ℕ) → i < n → NodeOk ws base i
 unfolding nodes_fault
 all-ok ws base zero h i lt = absurd (omega arith)
 all-ok ws base (suc n) h i lt =
@@ -99,7 +98,7 @@ all-ok ws base (suc n) h i lt =
     ⊎_elim (λ e. rw e (node_ok ws base n p.1)) ih (eq-or-lt_of_le at_most)
 
 -- a node's subtree begins at or below it
-pub first-le : (ws : List ℕ) (base n : ℕ) → nodes_fault ws base n ≡ 0 → (i : ℕ) → i < n → first_at ws i ≤ i
+pub first-le : (ws : List ℕ) (base n : ℕ) → nodes_fault ws base n ≡ Ok tt → (i : ℕ) → i < n → first_at ws i ≤ i
 unfolding nodes_fault
 first-le ws base zero h i lt = absurd (omega arith)
 first-le ws base (suc n) h i lt =
@@ -149,7 +148,7 @@ module _ (ws : List ℕ) (base i : ℕ) (n : Node ws base i) where
   child : (j : ℕ) → j < i → depth_at ws j < depth_at ws i → Child ws base i j
   child j h d = record { node = record { checked = n.checked; inside = let q = n.inside in omega arith }; below = h; falls = d }
 
-  spans-of : (a : ℕ) → arity (kind_at ws i) ≡ a → children ws a i 0 ≡ Between (first_at ws i) (depth_at ws i - 1)
+  spans-of : (a : ℕ) → arity (kind_at ws i) ≡ a → children ws a i 0 ≡ Some ((first_at ws i), (depth_at ws i - 1))
   spans-of a e = rw e at ok.spans
 
   pub zero_of : arity (kind_at ws i) ≡ 0 → Zero ws i
@@ -208,12 +207,12 @@ module _ (ws : List ℕ) (base i : ℕ) (n : Node ws base i) where
 
 -- ---- the pass over the nodes
 
-pub one-ahead : (ws : List ℕ) (base i : ℕ) → nodes_fault ws base i ≡ 0 → node_fault ws base i ≡ 0 → nodes_fault ws base (i + 1) ≡ 0
+pub one-ahead : (ws : List ℕ) (base i : ℕ) → nodes_fault ws base i ≡ Ok tt → node_fault ws base i ≡ Ok tt → nodes_fault ws base (i + 1) ≡ Ok tt
 unfolding nodes_fault
 one-ahead ws base i h k = rw (add-one, second _ _ h) k
 
 -- the first fault is the answer
-pub stops : (ws : List ℕ) (base i n : ℕ) → nodes_fault ws base i ≡ 0 → (node_fault ws base i ≡ 0 → ⊥) → i < n → nodes_fault ws base n ≡ node_fault ws base i
+pub stops : (ws : List ℕ) (base i n : ℕ) → nodes_fault ws base i ≡ Ok tt → (node_fault ws base i ≡ Ok tt → ⊥) → i < n → nodes_fault ws base n ≡ node_fault ws base i
 unfolding nodes_fault
 stops ws base i zero h k lt = absurd (omega arith)
 stops ws base i (suc n) h k lt =
@@ -224,7 +223,7 @@ stops ws base i (suc n) h k lt =
     (λ l. first _ _ (λ z. k (sym (ih l) ∙ z)) ∙ ih l)
     (eq-or-lt_of_le at_most)
 
-pub below_of : (ws : List ℕ) (base i : ℕ) → i ≤ node_count ws → nodes_fault ws base i ≡ 0 → Below ws i
+pub below_of : (ws : List ℕ) (base i : ℕ) → i ≤ node_count ws → nodes_fault ws base i ≡ Ok tt → Below ws i
 below_of ws base i h e = record { inside = h; low = first-le ws base i e }
 
 -- ---- the returns of `node_fault`, which `search node-faults` finds
@@ -237,7 +236,7 @@ module _ (ws : List ℕ) (base i : ℕ) {k p f : ℕ} (hk : k ≡ kind_at ws i) 
   unfolding node_fault
   kind-stops n = stop _ kind-part n
 
-  module _ {a d x g : ℕ} {t : Span} (z : f ≡ 0) (ha : a ≡ arity k) (ht : t ≡ children ws a i 0) (hx : x ≡ first_at ws i) (hd : d ≡ depth_at ws i) (hg : g ≡ span_fault t x d) where
+  module _ {a d x g : ℕ} {t : Option (ℕ × ℕ)} (z : f ≡ 0) (ha : a ≡ arity k) (ht : t ≡ children ws a i 0) (hx : x ≡ first_at ws i) (hd : d ≡ depth_at ws i) (hg : g ≡ span_fault t x d) where
     span-part : g ≡ span_fault (children ws (arity (kind_at ws i)) i 0) (first_at ws i) (depth_at ws i)
     span-part = cc
 
@@ -253,11 +252,11 @@ pub ruleset node-faults = (kind-stops, span-stops, limit-stops)
 
 -- ---- the loop of `children_of`: what is left to cover gives the answer, s; `search turns`
 
-module _ (ws : List ℕ) (n e d : ℕ) (s : Span) (inv : children ws n e d ≡ s) where
-  pub left-missing : 0 < n → e ≡ 0 → Missing ≡ s
+module _ (ws : List ℕ) (n e d : ℕ) (s : Option (ℕ × ℕ)) (inv : children ws n e d ≡ s) where
+  pub left-missing : 0 < n → e ≡ 0 → None ≡ s
   left-missing h k = sym (turn-missing ws n e d h k) ∙ inv
 
-  pub left-none : n ≤ 0 → Between e d ≡ s
+  pub left-none : n ≤ 0 → Some (e, d) ≡ s
   left-none h = sym (turn-none ws n e d h) ∙ inv
 
   pub left-again : {f g h : ℕ} → 0 < n → (e ≡ 0 → ⊥) → f ≡ first_at ws (e - 1) → g ≡ max d h → h ≡ depth_at ws (e - 1) → children ws (n - 1) f g ≡ s
@@ -273,13 +272,13 @@ pub ruleset turns = (left-missing, left-none, left-again, left-within, inside-by
 
 -- ---- the loop of `nodes_fault`: `search passes`
 
-pub some-fault : (ws : List ℕ) (base i : ℕ) {n r : ℕ} → nodes_fault ws base i ≡ 0 → i < n → r ≡ node_fault ws base i → (r ≡ 0 → ⊥) → r ≡ nodes_fault ws base n
+pub some-fault : (ws : List ℕ) (base i : ℕ) {n r : ℕ} → nodes_fault ws base i ≡ Ok tt → i < n → r ≡ node_fault ws base i → (r ≡ 0 → ⊥) → r ≡ nodes_fault ws base n
 some-fault ws base i h lt e k = e ∙ sym (stops ws base i _ h (λ z. k (e ∙ z)) lt)
 
-pub no-fault : (ws : List ℕ) (base i : ℕ) {r : ℕ} → nodes_fault ws base i ≡ 0 → r ≡ node_fault ws base i → r ≡ 0 → nodes_fault ws base (i + 1) ≡ 0
+pub no-fault : (ws : List ℕ) (base i : ℕ) {r : ℕ} → nodes_fault ws base i ≡ Ok tt → r ≡ node_fault ws base i → r ≡ 0 → nodes_fault ws base (i + 1) ≡ Ok tt
 no-fault ws base i h e z = one-ahead ws base i h (sym e ∙ z)
 
-pub all-passed : (ws : List ℕ) (base i n : ℕ) → nodes_fault ws base i ≡ 0 → i ≤ n → n ≤ i → 0 ≡ nodes_fault ws base n
+pub all-passed : (ws : List ℕ) (base i n : ℕ) → nodes_fault ws base i ≡ Ok tt → i ≤ n → n ≤ i → 0 ≡ nodes_fault ws base n
 all-passed ws base i n h p q = let e : i ≡ n = omega arith in sym (rw e at h)
 
 pub ruleset passes = (some-fault, no-fault, all-passed, below_of)
@@ -290,7 +289,7 @@ and-raise : (t : Bool) (p base b : ℕ) → base ≤ b → (t && leb base p) ≡
 and-raise false p base b h e = refl
 and-raise true p base b h e = let q = leb-false base p e in lt-leb b p (omega arith)
 
-node-raise : (ws : List ℕ) (base b i : ℕ) → base ≤ b → node_fault ws base i ≡ 0 → node_fault ws b i ≡ 0
+node-raise : (ws : List ℕ) (base b i : ℕ) → base ≤ b → node_fault ws base i ≡ Ok tt → node_fault ws b i ≡ Ok tt
 unfolding node_fault fault
 node-raise ws base b i h e =
     let p = none_both _ _ e in
@@ -298,7 +297,7 @@ node-raise ws base b i h e =
     let l = none_both _ _ q.1 in
     rw (second _ _ p.0, second _ _ q.0, second _ _ l.0, and-raise (eqb (kind_at ws i) 5) (payload_at ws i) base b h (failed _ 3 l.1))
 
-nodes-raise : (ws : List ℕ) (base b n : ℕ) → base ≤ b → nodes_fault ws base n ≡ 0 → nodes_fault ws b n ≡ 0
+nodes-raise : (ws : List ℕ) (base b n : ℕ) → base ≤ b → nodes_fault ws base n ≡ Ok tt → nodes_fault ws b n ≡ Ok tt
 unfolding nodes_fault
 nodes-raise ws base b zero h e = refl
 nodes-raise ws base b (suc n) h e =

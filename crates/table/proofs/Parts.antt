@@ -1,4 +1,5 @@
 -- The returns of the check's parts, each a law over plain values that `search parts` finds.
+use Rattle.std.specs.Prelude.{Option, Some, None}
 use mathlib.Core.Path.{◌≡◌, refl, sym}
 use mathlib.Core.Bool.{true, false}
 use mathlib.Core.List.{List}
@@ -10,10 +11,6 @@ use Rattle.faults.specs.Faults.{fault, ◌or_else◌}
 use Rattle.faults.specs.Limits.{max_registers}
 use Rattle.faults.specs.Numbers.{bad_node, not_local, no_register}
 use Rattle.table.specs.Table.{node_count, first_at, span_fault, layout_fault, dest_fault, last_fault}
-use Rattle.table.specs.declared.Dest.{Dest}
-use Rattle.table.specs.declared.Dest.TheVariants.{None, Reg}
-use Rattle.table.specs.declared.children.Span.{Span}
-use Rattle.table.specs.declared.children.Span.TheVariants.{Missing, Between}
 
 -- ---- `span_fault`: a depth is one more than the children's, which the code tests from below
 
@@ -26,12 +23,12 @@ one-off d g n = ne_eqb d (g + 1) (λ h. n (omega arith))
 one_on : (d g : ℕ) → (d ≡ 0 → ⊥) → d - 1 ≡ g → eqb d (g + 1) ≡ true
 one_on d g n e = eq-eqb d (g + 1) (omega arith)
 
-module _ {s : Span} (f d : ℕ) where
-  pub span-missing : s ≡ Missing → bad_node ≡ span_fault s f d
+module _ {s : Option (ℕ × ℕ)} (f d : ℕ) where
+  pub span-missing : s ≡ None → bad_node ≡ span_fault s f d
   unfolding span_fault
   span-missing q = rw q
 
-  module _ {e g : ℕ} (q : s ≡ Between e g) where
+  module _ {e g : ℕ} (q : s ≡ Some (e, g)) where
     pub span-first : (f ≡ e → ⊥) → bad_node ≡ span_fault s f d
     unfolding span_fault fault ◌or_else◌
     span-first h = rw (q, ne_eqb f e h)
@@ -67,16 +64,16 @@ module _ (params locals : ℕ) where
 
 -- ---- `dest_fault`
 
-module _ {dest : Dest} (base : ℕ) where
+module _ {dest : Option ℕ} (base : ℕ) where
   pub dest-none : dest ≡ None → 0 ≡ dest_fault dest base
   unfolding dest_fault
   dest-none e = rw e
 
-  pub dest-high : {r : ℕ} → dest ≡ Reg r → base ≤ r → not_local ≡ dest_fault dest base
+  pub dest-high : {r : ℕ} → dest ≡ Some r → base ≤ r → not_local ≡ dest_fault dest base
   unfolding dest_fault fault
   dest-high {r} e h = rw (e, le-leb base r h)
 
-  pub dest-low : {r : ℕ} → dest ≡ Reg r → r < base → 0 ≡ dest_fault dest base
+  pub dest-low : {r : ℕ} → dest ≡ Some r → r < base → 0 ≡ dest_fault dest base
   unfolding dest_fault fault
   dest-low {r} e h = rw (e, lt-leb base r h)
 

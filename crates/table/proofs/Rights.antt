@@ -1,4 +1,5 @@
 -- The check's few tests: where they all hold, the node has no fault. Each law is over plain values, and `search` finds it.
+use Rattle.std.specs.Prelude.{Option, Some}
 use mathlib.Core.Path.{◌≡◌, refl, sym, ◌∙◌, ap}
 use mathlib.Core.Bool.{Bool, true, false, not, cond, ◌&&◌, false≢true}
 use mathlib.Core.List.{List}
@@ -14,19 +15,17 @@ use Rattle.faults.specs.Limits.{max_depth}
 use Rattle.float.specs.Bits.{is_finite}
 use Rattle.table.specs.Table.{node_count, kind_at, payload_at, first_at, depth_at, kind_fault, children, span_at, span_fault, limit_fault, node_fault, nodes_fault}
 use Rattle.table.specs.Nodes.{Below, Last, Passed, Over, Right, PayloadRight}
-use Rattle.table.specs.declared.children.Span.{Span}
-use Rattle.table.specs.declared.children.Span.TheVariants.{Between}
 use Rattle.faults.proofs.Faults.{second}
 use Rattle.table.proofs.Nodes.{turn, turn-missing, turn-none, all-ok, first-le, below_of, no-fault}
 use Rattle.table.proofs.Arities.{arity-0, arity-1, arity-2, arity-3}
 
 -- ---- a node has no fault where none of its three parts has one
 
-kind-none : (k p : ℕ) → ltb 26 k ≡ false → (not (eqb p 0) && not (leb 3 k && leb k 5)) ≡ false → (eqb k 4 && not (is_finite p)) ≡ false → kind_fault k p ≡ 0
+kind-none : (k p : ℕ) → ltb 26 k ≡ false → (not (eqb p 0) && not (leb 3 k && leb k 5)) ≡ false → (eqb k 4 && not (is_finite p)) ≡ false → kind_fault k p ≡ Ok tt
 unfolding fault ◌or_else◌
 kind-none k p f g h = rw (f, g, h)
 
-span_none : (s : Span) (e g f d : ℕ) → s ≡ Between e g → f ≡ e → d ≡ g + 1 → span_fault s f d ≡ 0
+span_none : (s : Option (ℕ × ℕ)) (e g f d : ℕ) → s ≡ Some (e, g) → f ≡ e → d ≡ g + 1 → span_fault s f d ≡ Ok tt
 unfolding span_fault fault ◌or_else◌
 span_none s e g f d q h k = rw (q, eq-eqb f e h, eq-eqb d (g + 1) k)
 
@@ -37,12 +36,12 @@ ref-below k p base h = go (eqb k 5) refl
     go true e = lt-leb base p (h (eqb-true k 5 e))
     go false e = refl
 
-limit-none : (k p d base : ℕ) → d ≤ max_depth → (k ≡ 5 → p < base) → limit_fault k p d base ≡ 0
+limit-none : (k p d base : ℕ) → d ≤ max_depth → (k ≡ 5 → p < base) → limit_fault k p d base ≡ Ok tt
 unfolding fault ◌or_else◌
 limit-none k p d base h r = rw (le-ltb max_depth d h, ref-below k p base r)
 
-all_none : (ws : List ℕ) (base i : ℕ) → kind_fault (kind_at ws i) (payload_at ws i) ≡ 0 → span_fault (span_at ws i) (first_at ws i) (depth_at ws i) ≡ 0
-    → limit_fault (kind_at ws i) (payload_at ws i) (depth_at ws i) base ≡ 0 → node_fault ws base i ≡ 0
+all_none : (ws : List ℕ) (base i : ℕ) → kind_fault (kind_at ws i) (payload_at ws i) ≡ Ok tt → span_fault (span_at ws i) (first_at ws i) (depth_at ws i) ≡ Ok tt
+    → limit_fault (kind_at ws i) (payload_at ws i) (depth_at ws i) base ≡ Ok tt → node_fault ws base i ≡ Ok tt
 unfolding node_fault
 all_none ws base i f g h = second _ _ f ∙ second _ _ g ∙ h
 
@@ -92,7 +91,7 @@ payload-is k p base h hf hx ha hs hb = rw (hs, hb, hx, hf, ha) (payload-of k p b
 
 -- ---- `leaf_right`
 
-leaf-span : (ws : List ℕ) (i : ℕ) → kind_at ws i ≤ 5 → span_at ws i ≡ Between i 0
+leaf-span : (ws : List ℕ) (i : ℕ) → kind_at ws i ≤ 5 → span_at ws i ≡ Some (i, 0)
 unfolding children
 leaf-span ws i h = rw (arity-0 (kind_at ws i) h)
 
@@ -111,10 +110,10 @@ leaf-is ws base i {k} {f} {d} {p} hk h hf ef hd ed hp q =
 
 -- ---- `over_right`: the first child is what is left
 
-inner-kind : (k p : ℕ) → 5 < k → k ≤ 26 → p ≡ 0 → kind_fault k p ≡ 0
+inner-kind : (k p : ℕ) → 5 < k → k ≤ 26 → p ≡ 0 → kind_fault k p ≡ Ok tt
 inner-kind k p g h z = kind-none k p (le-ltb 26 k h) (rw (eq-eqb p 0 z)) (rw (ne_eqb k 4 (λ q. omega arith)))
 
-one_left : (ws : List ℕ) (e g : ℕ) → (e ≡ 0 → ⊥) → children ws 1 e g ≡ Between (first_at ws (e - 1)) (max g (depth_at ws (e - 1)))
+one_left : (ws : List ℕ) (e g : ℕ) → (e ≡ 0 → ⊥) → children ws 1 e g ≡ Some ((first_at ws (e - 1)), (max g (depth_at ws (e - 1))))
 one_left ws e g h = turn ws 1 e g (omega arith) h ∙ turn-none ws 0 (first_at ws (e - 1)) (max g (depth_at ws (e - 1))) (omega arith)
 
 pub over-is : (ws : List ℕ) (base i : ℕ) {e g f x d h m p : ℕ} → Over ws base i e g → (e ≡ 0 → ⊥) → f ≡ first_at ws i → x ≡ first_at ws (e - 1) → f ≡ x
@@ -145,7 +144,7 @@ unary-left ws zero g h = turn-missing ws 1 0 0 (omega arith) refl ∙ sym (turn-
 unary-left ws (suc j) g h =
     let q : g ≡ depth_at ws (suc j - 1) = h (omega arith) in
     let m : max 0 (depth_at ws (suc j - 1)) ≡ max g (depth_at ws (suc j - 1)) = omega arith in
-    one_left ws (suc j) 0 (λ z. omega arith) ∙ ap (Between (first_at ws (suc j - 1))) m ∙ sym (one_left ws (suc j) g (λ z. omega arith))
+    one_left ws (suc j) 0 (λ z. omega arith) ∙ ap (TODO_Between (first_at ws (suc j - 1))) m ∙ sym (one_left ws (suc j) g (λ z. omega arith))
 
 -- past the last child
 past-last : (ws : List ℕ) (n i e g : ℕ) → e ≤ i → (0 < i → e ≡ first_at ws (i - 1)) → (0 < i → g ≡ depth_at ws (i - 1)) → children ws (suc (suc n)) i 0 ≡ children ws (suc n) e g
@@ -212,7 +211,7 @@ pub ruleset rights = (right-false, right-none, payload-is, leaf-is, over-is, ove
 pub last-zero : (ws : List ℕ) → Last ws 0 0 0
 last-zero ws = record { first = λ h. absurd (omega arith); depth = λ h. absurd (omega arith); low = omega arith; shallow = omega arith }
 
-pub last-next : (ws : List ℕ) (base i : ℕ) {r f d : ℕ} → nodes_fault ws base i ≡ 0 → r ≡ node_fault ws base i → r ≡ 0 → f ≡ first_at ws i → d ≡ depth_at ws i → Last ws (i + 1) f d
+pub last-next : (ws : List ℕ) (base i : ℕ) {r f d : ℕ} → nodes_fault ws base i ≡ Ok tt → r ≡ node_fault ws base i → r ≡ 0 → f ≡ first_at ws i → d ≡ depth_at ws i → Last ws (i + 1) f d
 last-next ws base i n q z hf hd =
     let h = no-fault ws base i n q z in
     let s = (all-ok ws base (i + 1) h i (omega arith)).shallow in
@@ -220,7 +219,7 @@ last-next ws base i n q z hf hd =
     let e : i + 1 - 1 ≡ i = omega arith in
     record { first = λ _. rw e hf; depth = λ _. rw e hd; low = omega arith; shallow = omega arith }
 
-pub passed : (ws : List ℕ) (base i : ℕ) {e g : ℕ} → i < node_count ws → nodes_fault ws base i ≡ 0 → Last ws i e g → Passed ws base i e g
+pub passed : (ws : List ℕ) (base i : ℕ) {e g : ℕ} → i < node_count ws → nodes_fault ws base i ≡ Ok tt → Last ws i e g → Passed ws base i e g
 passed ws base i h n l = record { inside = h; none = n; last = l }
 
 pub ruleset loops = (last-zero, last-next, passed)

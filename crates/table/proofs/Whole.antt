@@ -1,4 +1,5 @@
 -- What the check's 0 says of the whole table.
+use Rattle.std.specs.Prelude.{Option, Some}
 use mathlib.Core.Path.{◌≡◌, refl, sym, ◌∙◌}
 use mathlib.Core.Bool.{not}
 use mathlib.Core.List.{List}
@@ -14,8 +15,6 @@ use Rattle.table.specs.Table.{node_count, first_at, shape_fault, layout_fault, d
 use Rattle.table.specs.Nodes.{Node}
 use Rattle.table.specs.Tree.{tree, size, depth}
 use Rattle.table.specs.Accepted.{Subtree, Accepted}
-use Rattle.table.specs.declared.Dest.{Dest}
-use Rattle.table.specs.declared.Dest.TheVariants.{Reg}
 use Rattle.faults.proofs.Faults.{none_both, failed, stop, pass}
 use Rattle.table.proofs.Nodes.{ok}
 use Rattle.table.proofs.Held.{subtree}
@@ -24,7 +23,7 @@ pub record Shaped (ws : List ℕ) : Type 0 where
   pub some : 0 < node_count ws
   pub few : node_count ws ≤ max_nodes
 
-pub shape-ok : (ws : List ℕ) → shape_fault ws ≡ 0 → Shaped ws
+pub shape-ok : (ws : List ℕ) → shape_fault ws ≡ Ok tt → Shaped ws
 unfolding shape_fault
 shape-ok ws h =
     let p = none_both _ _ h in
@@ -34,7 +33,7 @@ shape-ok ws h =
     let few : node_count ws ≤ max_nodes = ltb-false _ _ (failed _ 0 q.1) in
     record { some = omega arith; few = few }
 
-pub layout-ok : (params locals : ℕ) → layout_fault params locals ≡ 0 → params + locals ≤ max_registers
+pub layout-ok : (params locals : ℕ) → layout_fault params locals ≡ Ok tt → params + locals ≤ max_registers
 unfolding layout_fault
 layout-ok params locals h = ltb-false _ _ (failed _ 4 h)
 
@@ -48,7 +47,7 @@ some-node ws e z = (shape-ok ws (sym e ∙ z)).some
 pub ruleset checks = (stop, pass, base-fits, some-node)
 
 -- an accepted table holds exactly one tree, of all its nodes, and each node its subtree
-pub accepted : (ws : List ℕ) (params locals : ℕ) (dest : Dest) → check_of ws params locals dest ≡ 0 → Accepted ws params locals
+pub accepted : (ws : List ℕ) (params locals : ℕ) (dest : Option ℕ) → check_of ws params locals dest ≡ Ok tt → Accepted ws params locals
 unfolding check_of last_fault
 accepted ws params locals dest h =
     let p = none_both _ _ h in
@@ -73,7 +72,7 @@ accepted ws params locals dest h =
     }
 
 -- and its destination, where there is one, is below the base
-pub dest-below : (ws : List ℕ) (params locals r : ℕ) → check_of ws params locals (Reg r) ≡ 0 → r < params + locals
+pub dest-below : (ws : List ℕ) (params locals r : ℕ) → check_of ws params locals (Some r) ≡ Ok tt → r < params + locals
 unfolding check_of dest_fault
 dest-below ws params locals r h =
     let p = none_both _ _ h in

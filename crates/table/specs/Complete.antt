@@ -1,19 +1,17 @@
 -- The first and depth of every node, filled in by document 01: "`first` is the lowest node of the subtree, `depth` is 1 for a leaf, else one more than the
 -- deepest child". All other words stay: kinds, payloads, and those after the last whole node.
-use Rattle.std.specs.Prelude.{ℕ, zero, suc, ◌+◌, ◌*◌, ◌≤◌, ◌<◌, ◌^◌, ◌≡◌, List, length, get_or, set}
+use Rattle.std.specs.Prelude.{ℕ, zero, suc, ◌+◌, ◌*◌, ◌≤◌, ◌<◌, ◌^◌, ◌≡◌, List, length, get_or, set, Option, Some, None}
 use Rattle.table.specs.Table.{node_count, kind_at, payload_at, first_at, depth_at, span_at}
-use Rattle.table.specs.declared.children.Span.{Span}
-use Rattle.table.specs.declared.children.Span.TheVariants.{Missing, Between}
 
 -- what a node's children give it. A leaf i has none, so they cover nothing: its first is i, and its depth 0 + 1.
 -- Where a child is missing both are 0; no depth is 0, so the check refuses that node.
-unfoldable pub span_first : Span → ℕ
-span_first Missing = 0
-span_first (Between lowest deepest) = lowest
+unfoldable pub span_first : Option (ℕ × ℕ) → ℕ
+span_first None = 0
+span_first (Some (lowest, deepest)) = lowest
 
-unfoldable pub span_depth : Span → ℕ
-span_depth Missing = 0
-span_depth (Between lowest deepest) = deepest + 1
+unfoldable pub span_depth : Option (ℕ × ℕ) → ℕ
+span_depth None = 0
+span_depth (Some (lowest, deepest)) = deepest + 1
 
 -- node i, whose children stand before it
 unfoldable pub complete_node : List ℕ → ℕ → List ℕ

@@ -1,13 +1,12 @@
 -- Plumbing: what functions over a table ask of a node and say of its children. It adds nothing to what 01 says of a table.
-use Rattle.std.specs.Prelude.{ℕ, ◌-◌, ◌≤◌, ◌<◌, ◌^◌, ◌≡◌, Bool, true, List, get_or}
+use Rattle.std.specs.Prelude.{ℕ, ◌-◌, ◌≤◌, ◌<◌, ◌^◌, ◌≡◌, Bool, true, List, get_or, Option}
 use Rattle.faults.specs.Limits.{max_depth}
 use Rattle.table.specs.Table.{node_count, kind_at, first_at, depth_at, span_at, children, kind_fault, node_fault, nodes_fault}
 use Rattle.table.specs.Complete.{span_depth}
-use Rattle.table.specs.declared.children.Span.{Span}
 
 -- i is a node of a table whose nodes were all accepted
 pub record Node (ws : List ℕ) (base i : ℕ) : Type 0 where
-  pub checked : nodes_fault ws base (node_count ws) ≡ 0
+  pub checked : nodes_fault ws base (node_count ws) ≡ Ok tt
   pub inside : i < node_count ws
 
 -- j is a child of the node i
@@ -33,7 +32,7 @@ pub record Below (ws : List ℕ) (i : ℕ) : Type 0 where
   pub low : (j : ℕ) → j < i → first_at ws j ≤ j
 
 -- 64 bits hold the depth
-pub record Shallow (s : Span) : Type 0 where
+pub record Shallow (s : Option (ℕ × ℕ)) : Type 0 where
   pub fits : span_depth s < 2 ^ 64
 
 -- the node before i, where there is one, has the first e and the depth g
@@ -46,13 +45,13 @@ pub record Last (ws : List ℕ) (i e g : ℕ) : Type 0 where
 -- the same, and no node below i has a fault
 pub record Passed (ws : List ℕ) (base i e g : ℕ) : Type 0 where
   pub inside : i < node_count ws
-  pub none : nodes_fault ws base i ≡ 0
+  pub none : nodes_fault ws base i ≡ Ok tt
   pub last : Last ws i e g
 
 -- of node i's children the first is still to be looked at, which ends just before e; the others have the greatest depth g
 pub record Over (ws : List ℕ) (base i e g : ℕ) : Type 0 where
   pub inside : i < node_count ws
-  pub none : nodes_fault ws base i ≡ 0
+  pub none : nodes_fault ws base i ≡ Ok tt
   pub inner : 5 < kind_at ws i
   pub known : kind_at ws i ≤ 26
   pub spans : span_at ws i ≡ children ws 1 e g
@@ -61,9 +60,9 @@ pub record Over (ws : List ℕ) (base i e g : ℕ) : Type 0 where
 
 -- where r is true, node i has no fault
 pub record Right (ws : List ℕ) (base i : ℕ) (r : Bool) : Type 0 where
-  pub none : r ≡ true → node_fault ws base i ≡ 0
+  pub none : r ≡ true → node_fault ws base i ≡ Ok tt
 
 -- where r is true, a leaf of kind k may have the payload p
 pub record PayloadRight (k p base : ℕ) (r : Bool) : Type 0 where
-  pub known : r ≡ true → kind_fault k p ≡ 0
+  pub known : r ≡ true → kind_fault k p ≡ Ok tt
   pub refers : r ≡ true → k ≡ 5 → p < base

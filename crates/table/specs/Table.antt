@@ -1,13 +1,9 @@
 -- The node table, and the number that its check gives: 0, or the first fault in the order of document 01.
-use Rattle.std.specs.Prelude.{ℕ, zero, suc, ◌+◌, ◌*◌, ◌-◌, ◌/◌, ◌%◌, ◌≤◌, ◌<◌, max, ◌≡◌, Bool, true, false, not, cond, ◌&&◌, List, leb, ltb, eqb, length, get_or}
+use Rattle.std.specs.Prelude.{ℕ, zero, suc, ◌+◌, ◌*◌, ◌-◌, ◌/◌, ◌%◌, ◌≤◌, ◌<◌, max, ◌≡◌, Bool, true, false, not, cond, ◌&&◌, List, leb, ltb, eqb, length, get_or, Option, Some, None}
 use Rattle.faults.specs.Faults.{fault, ◌or_else◌}
 use Rattle.faults.specs.Limits.{max_nodes, max_depth, max_registers}
 use Rattle.float.specs.Bits.{is_finite}
 use Rattle.faults.specs.Numbers.{bad_shape, bad_node, too_deep, not_local, no_register}
-use Rattle.table.specs.declared.Dest.{Dest}
-use Rattle.table.specs.declared.Dest.TheVariants.{None, Reg}
-use Rattle.table.specs.declared.children.Span.{Span}
-use Rattle.table.specs.declared.children.Span.TheVariants.{Missing, Between}
 
 -- ---- four words a node: kind, payload, first, depth
 
@@ -57,19 +53,19 @@ kind_fault k p =
     or_else fault (eqb k 4 && not (is_finite p)) bad_node
 
 -- the n children of which the last ends just before position e: that one is missing, or their lowest node and the greatest of d and their depths
-unfoldable pub children : List ℕ → ℕ → ℕ → ℕ → Span
-children ws zero e d = Between e d
-children ws (suc n) zero d = Missing
+unfoldable pub children : List ℕ → ℕ → ℕ → ℕ → Option (ℕ × ℕ)
+children ws zero e d = Some (e, d)
+children ws (suc n) zero d = None
 children ws (suc n) (suc j) d = children ws n (first_at ws j) (max d (depth_at ws j))
 
 -- the children of node i
-abbrev pub span_at : List ℕ → ℕ → Span
+abbrev pub span_at : List ℕ → ℕ → Option (ℕ × ℕ)
 span_at ws i = children ws (arity (kind_at ws i)) i 0
 
 -- no child is missing, `first` is the lowest node, and `depth` one more than the deepest child's
-unfoldable pub span_fault : Span → ℕ → ℕ → ℕ
-span_fault Missing f d = bad_node
-span_fault (Between e g) f d = fault (not (eqb f e)) bad_node or_else fault (not (eqb d (g + 1))) bad_node
+unfoldable pub span_fault : Option (ℕ × ℕ) → ℕ → ℕ → ℕ
+span_fault None f d = bad_node
+span_fault (Some (e, g)) f d = fault (not (eqb f e)) bad_node or_else fault (not (eqb d (g + 1))) bad_node
 
 -- the depth is within its limit, and a Ref below the base
 abbrev pub limit_fault : ℕ → ℕ → ℕ → ℕ → ℕ
@@ -98,14 +94,14 @@ shape_fault ws =
 unfoldable pub layout_fault : ℕ → ℕ → ℕ
 layout_fault params locals = fault (ltb max_registers (params + locals)) no_register
 
-unfoldable pub dest_fault : Dest → ℕ → ℕ
+unfoldable pub dest_fault : Option ℕ → ℕ → ℕ
 dest_fault None base = 0
-dest_fault (Reg r) base = fault (leb base r) not_local
+dest_fault (Some r) base = fault (leb base r) not_local
 
 unfoldable pub last_fault : List ℕ → ℕ
 last_fault ws = fault (not (eqb (first_at ws (node_count ws - 1)) 0)) bad_node
 
-unfoldable pub check_of : List ℕ → ℕ → ℕ → Dest → ℕ
+unfoldable pub check_of : List ℕ → ℕ → ℕ → Option ℕ → ℕ
 check_of ws params locals dest =
     shape_fault ws
     or_else layout_fault params locals

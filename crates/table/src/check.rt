@@ -5,8 +5,8 @@ ghost use Rattle.table.specs.Table.{node_count, kind_at, kind_fault, limit_fault
 ghost use Rattle.table.specs.Table.{shape_fault, layout_fault, dest_fault, last_fault, check_of};
 ghost use Rattle.table.specs.Nodes.{Below, Right, PayloadRight, Over, Passed};
 
-use crate::Dest;
-use crate::children::{Span, arity_of, children_of, greater};
+use faults::Fault;
+use crate::children::{arity_of, children_of, greater};
 
 // The number of the first of two tests that holds, else none.
 fn either(a: bool, n: u8, b: bool, m: u8) -> u8
@@ -29,27 +29,27 @@ fn kind_fault(k: u64, p: u64) -> u8
     let idle = !((crate::INT <= k) & (k <= crate::REF));
     either(
         crate::TERNARY < k,
-        faults::BAD_NODE,
+        Fault::BadNode,
         ((p != 0) & idle) | ((k == crate::FLOAT) & !float::bits::is_finite(p)),
-        faults::BAD_NODE,
+        Fault::BadNode,
     )
 }
 
 // First and depth are what the children give. Everything above relies on them: the children's places on first, the end of every recursion on depth.
-fn span_fault(s: Span, f: usize, d: u64) -> u8
+fn span_fault(s: Option<(usize, u64)>, f: usize, d: u64) -> u8
     ensures { result ≡ span_fault s f d }
 {
     match s {
-        Span::Missing => faults::BAD_NODE,
-        Span::Between(e, g) => {
+        None => Fault::BadNode,
+        Some((e, g)) => {
             if f != e {
-                return faults::BAD_NODE;
+                return Fault::BadNode;
             }
             if d == 0 {
-                return faults::BAD_NODE;
+                return Fault::BadNode;
             }
             if d - 1 != g {
-                return faults::BAD_NODE;
+                return Fault::BadNode;
             }
             faults::NONE
         }
@@ -62,9 +62,9 @@ fn limit_fault(k: u64, p: u64, d: u64, base: u64) -> u8
 {
     either(
         faults::MAX_DEPTH < d,
-        faults::TOO_DEEP,
+        Fault::TooDeep,
         (k == crate::REF) & (base <= p),
-        faults::NOT_LOCAL,
+        Fault::NotLocal,
     )
 }
 
@@ -223,13 +223,13 @@ fn shape_fault(nodes: &[u64]) -> u8
 {
     let n = nodes.len();
     if n == 0 {
-        return faults::BAD_SHAPE;
+        return Fault::BadShape;
     }
     if n % 4 != 0 {
-        return faults::BAD_SHAPE;
+        return Fault::BadShape;
     }
     if faults::MAX_NODES < n / 4 {
-        return faults::BAD_SHAPE;
+        return Fault::BadShape;
     }
     faults::NONE
 }
@@ -239,23 +239,23 @@ fn layout_fault(params: u64, locals: u64) -> u8
     ensures { result ≡ layout_fault params locals }
 {
     if faults::MAX_REGISTERS < params {
-        return faults::NO_REGISTER;
+        return Fault::NoRegister;
     }
     if faults::MAX_REGISTERS - params < locals {
-        return faults::NO_REGISTER;
+        return Fault::NoRegister;
     }
     faults::NONE
 }
 
 // A destination is a local: a register from the base up may be in use for a temporary.
-fn dest_fault(dest: Dest, base: u64) -> u8
+fn dest_fault(dest: Option<u64>, base: u64) -> u8
     ensures { result ≡ dest_fault dest base }
 {
     match dest {
-        Dest::None => faults::NONE,
-        Dest::Reg(r) => {
+        None => faults::NONE,
+        Some(r) => {
             if base <= r {
-                faults::NOT_LOCAL
+                Fault::NotLocal
             } else {
                 faults::NONE
             }
@@ -269,13 +269,13 @@ fn last_fault(nodes: &[u64]) -> u8
     ensures { result ≡ last_fault nodes.now }
 {
     if crate::first_at(nodes, nodes.len() / 4 - 1) != 0 {
-        return faults::BAD_NODE;
+        return Fault::BadNode;
     }
     faults::NONE
 }
 
 // The number of a table with its layout and its destination: 0, or the first fault.
-pub fn check(nodes: &[u64], params: u64, locals: u64, dest: Dest) -> u8
+pub fn check(nodes: &[u64], params: u64, locals: u64, dest: Option<u64>) -> u8
     ensures { result ≡ check_of nodes.now params locals dest }
 {
     let s = shape_fault(nodes);

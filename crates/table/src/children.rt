@@ -3,13 +3,6 @@ ghost use Rattle.std.specs.Prelude.{◌≡◌, max};
 ghost use Rattle.table.specs.Table.{arity, children};
 ghost use Rattle.table.specs.Nodes.{Below};
 
-// One child is missing, or their lowest node and their greatest depth.
-#[derive(Clone, Copy)]
-pub enum Span {
-    Missing,
-    Between(usize, u64),
-}
-
 pub fn greater(a: u64, b: u64) -> u64
     ensures { result ≡ max a b }
 {
@@ -32,7 +25,7 @@ pub fn arity_of(k: u64) -> u64
 }
 
 // The n children whose last one ends just before node i. Each names the place where the one before it ends, so no subtree is walked.
-pub fn children_of(nodes: &[u64], n: u64, i: usize) -> Span
+pub fn children_of(nodes: &[u64], n: u64, i: usize) -> Option<(usize, u64)>
     requires { Below nodes.now i }
     ensures { result ≡ children nodes.now n i 0 }
 {
@@ -41,11 +34,11 @@ pub fn children_of(nodes: &[u64], n: u64, i: usize) -> Span
     let mut d = 0;
     while 0 < left {
         if e == 0 {
-            return Span::Missing;
+            return None;
         }
         d = greater(d, crate::depth_at(nodes, e - 1));
         e = crate::first_at(nodes, e - 1);
         left -= 1;
     }
-    Span::Between(e, d)
+    Some((e, d))
 }

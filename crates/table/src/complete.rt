@@ -4,26 +4,26 @@ ghost use Rattle.table.specs.Table.{node_count, span_at};
 ghost use Rattle.table.specs.Nodes.{Below, Shallow};
 ghost use Rattle.table.specs.Complete.{span_first, span_depth, complete_node, complete_of};
 
-use crate::children::{Span, arity_of, children_of};
+use crate::children::{arity_of, children_of};
 
 // The first that the children give; 0 where one is missing.
-fn first_of(s: Span) -> u64
+fn first_of(s: Option<(usize, u64)>) -> u64
     ensures { result ≡ span_first s }
 {
     match s {
-        Span::Missing => 0,
-        Span::Between(e, _) => e as u64,
+        None => 0,
+        Some((e, _)) => e as u64,
     }
 }
 
 // The depth that the children give; 0 where one is missing, and no depth is 0, so that the check refuses such a node.
-fn depth_of(s: Span) -> u64
+fn depth_of(s: Option<(usize, u64)>) -> u64
     requires { Shallow s }
     ensures { result ≡ span_depth s }
 {
     match s {
-        Span::Missing => 0,
-        Span::Between(_, d) => d + 1,
+        None => 0,
+        Some((_, d)) => d + 1,
     }
 }
 

@@ -9,13 +9,6 @@ ghost use Rattle.std.specs.Prelude.{◌≡◌, ◌<◌};
 ghost use Rattle.table.specs.Table.{node_count, kind_at, payload_at, first_at, depth_at, child1, child2, child3};
 ghost use Rattle.table.specs.Nodes.{Inner, ChildIs};
 
-// Where a value goes: nowhere in particular, or a register.
-#[derive(Clone, Copy)]
-pub enum Dest {
-    None,
-    Reg(u64),
-}
-
 // The kinds of a node. Up to REF a node has no child, up to NOT one, up to OR two, and TERNARY has three.
 pub const NIL: u64 = 0;
 

@@ -1,19 +1,19 @@
 -- What an operator answers, by document 01, "Values": a value, or the number of a fault.
-use Rattle.std.specs.Prelude.{ℕ, Bool, true, false}
+use Rattle.value.specs.declared.Value.{Value}
+use Rattle.faults.specs.declared.Fault.{Fault}
+use Rattle.std.specs.Prelude.{ℕ, Bool, true, false, Result, Ok, Err}
 use Rattle.value.specs.Value.{Datum, nil, bool, int, float, meaning}
-use Rattle.value.specs.declared.answer.Answer.{Answer}
-use Rattle.value.specs.declared.answer.Answer.TheVariants as A
 
-pub data Result : Type 0 where
-  is : Datum → Result
-  fault : ℕ → Result
+pub data Answer : Type 0 where
+  is : Datum → Answer
+  fault : ℕ → Answer
 
 -- what the code answers
-abbrev pub result_of : Answer → Result
-result_of (A.Is v) = is (meaning v)
-result_of (A.Fault n) = fault n
+abbrev pub result_of : Result Value Fault → Answer
+result_of (Ok v) = is (meaning v)
+result_of (Err n) = fault n
 
-abbrev pub truth : Bool → Result
+abbrev pub truth : Bool → Answer
 truth b = is (bool b)
 
 unfoldable pub is_number : Datum → Bool

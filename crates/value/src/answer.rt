@@ -4,14 +4,8 @@ ghost use Rattle.value.specs.Value.{meaning};
 ghost use Rattle.value.specs.Answer.{result_of, truth};
 ghost use Rattle.value.specs.Seen.{as_number, shown, counts};
 
+use faults::Fault;
 use crate::Value;
-
-// What an operator gives: a value, or the number of its fault.
-#[derive(Clone, Copy)]
-pub enum Answer {
-    Is(Value),
-    Fault(u8),
-}
 
 // A value as a number, by its pattern: a Float is one case here, where `Value` has one for its NaNs.
 #[derive(Clone, Copy)]
@@ -49,8 +43,8 @@ pub fn both_numbers(a: Number, b: Number) -> bool
     is_number(a) && is_number(b)
 }
 
-pub fn bool_answer(b: bool) -> Answer
+pub fn bool_answer(b: bool) -> Result<Value, Fault>
     ensures { result_of result ≡ truth b }
 {
-    Answer::Is(Value::Bool(b))
+    Ok(Value::Bool(b))
 }

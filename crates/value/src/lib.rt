@@ -17,13 +17,6 @@ pub enum Value {
     Nan(u64),
 }
 
-// What a lent pair is: a value, or ill-formed.
-#[derive(Clone, Copy)]
-pub enum Lent {
-    Well(Value),
-    Ill,
-}
-
 // The Float of a pattern.
 pub fn of_pattern(p: u64) -> Value
     ensures { Vs.meaning result ≡ Vs.float p }
@@ -35,28 +28,28 @@ pub fn of_pattern(p: u64) -> Value
 }
 
 // The value that a pair is lent for.
-pub fn from_pair(kind: u8, payload: u64) -> Lent
+pub fn from_pair(kind: u8, payload: u64) -> Option<Value>
     ensures { Vs.read_of result ≡ Vs.of_pair kind payload }
 {
     if kind == 0 {
         if payload == 0 {
-            return Lent::Well(Value::Nil);
+            return Some(Value::Nil);
         }
-        return Lent::Ill;
+        return None;
     }
     if kind == 1 {
         if payload < 2 {
-            return Lent::Well(Value::Bool(payload == 1));
+            return Some(Value::Bool(payload == 1));
         }
-        return Lent::Ill;
+        return None;
     }
     if kind == 2 {
-        return Lent::Well(Value::Int(int64::sign::signed(payload)));
+        return Some(Value::Int(int64::sign::signed(payload)));
     }
     if kind == 3 {
-        return Lent::Well(of_pattern(payload));
+        return Some(of_pattern(payload));
     }
-    Lent::Ill
+    None
 }
 
 // The pair that a value is lent as.

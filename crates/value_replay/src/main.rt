@@ -1,13 +1,13 @@
 // Replays operators on lent values, and writes what they answer; tools/oracle/README.md has the layout.
 #![tactic(auto)]
 
+use faults::Fault;
 use std::io;
 use std::io::{Read, Write};
-use value::answer::Answer;
-use value::{Lent, Value};
+use value::Value;
 
 // The operator of a node kind on two values; the second is left alone by Minus and Not.
-fn apply(kind: u64, a: Value, b: Value) -> Answer {
+fn apply(kind: u64, a: Value, b: Value) -> Result<Value, Fault> {
     if kind == 6 {
         return ops::minus(a);
     }
@@ -18,28 +18,28 @@ fn apply(kind: u64, a: Value, b: Value) -> Answer {
 }
 
 // The pair as a value. A kind that no byte holds is none: `byte_of` makes it 255.
-fn lent(kind: u64, payload: u64) -> Lent {
+fn lent(kind: u64, payload: u64) -> Option<Value> {
     value::from_pair(replay_io::byte_of(kind), payload)
 }
 
-fn answer(kind: u64, x: Lent, y: Lent) -> Answer {
-    let Lent::Well(a) = x else {
-        return Answer::Fault(faults::ILL_FORMED);
+fn answer(kind: u64, x: Option<Value>, y: Option<Value>) -> Result<Value, Fault> {
+    let Some(a) = x else {
+        return Err(Fault::IllFormed);
     };
-    let Lent::Well(b) = y else {
-        return Answer::Fault(faults::ILL_FORMED);
+    let Some(b) = y else {
+        return Err(Fault::IllFormed);
     };
     apply(kind, a, b)
 }
 
-fn write_answer<W: Write>(output: &mut W, a: Answer) -> io::Result<()> {
+fn write_answer<W: Write>(output: &mut W, a: Result<Value, Fault>) -> io::Result<()> {
     match a {
-        Answer::Is(v) => {
+        Ok(v) => {
             replay_io::write_word(output, 0)?;
             replay_io::write_word(output, value::kind_of(v) as u64)?;
             replay_io::write_word(output, value::payload_of(v))
         }
-        Answer::Fault(n) => {
+        Err(n) => {
             replay_io::write_word(output, n as u64)?;
             replay_io::write_word(output, 0)?;
             replay_io::write_word(output, 0)

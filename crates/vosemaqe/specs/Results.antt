@@ -1,20 +1,17 @@
 -- What a call leaves in the caller's result cells: the number of the answer, and 0 in every cell wherever the number is not 0.
-use Rattle.std.specs.Prelude.{◌≡◌, List, ℕ, zero, suc, min, length}
-use Rattle.table.specs.declared.Dest.{Dest}
-use Rattle.table.specs.declared.Dest.TheVariants.{None, Reg}
+use Rattle.insns.specs.declared.op.Op.{Op}
+use Rattle.faults.specs.declared.Fault.{Fault}
+use Rattle.std.specs.Prelude.{◌≡◌, List, ℕ, zero, suc, min, length, Option, Some, None, Result, Ok, Err}
 use Rattle.value.specs.Value.{kind_of, payload_of}
 use Rattle.value.specs.Answer as Answer
-use Rattle.value.specs.Answer.{Result}
+use Rattle.value.specs.Answer.{Answer}
 use Rattle.emit.specs.State.{Res, State}
 use Rattle.compile.specs.Compile.{compile_of}
 use Rattle.compile.specs.Buffers.{answered, padded, words_of, kinds_of, payloads_of}
 use Rattle.compile.specs.declared.buffers.Compiled.{Compiled}
-use Rattle.compile.specs.declared.buffers.Compiled.TheVariants.{Done, Refused}
 use Rattle.insns.specs.Fields.{made_number}
 use Rattle.insns.specs.declared.Insn.{Insn}
-use Rattle.insns.specs.declared.Made.{Made}
 use Rattle.decode.specs.Decode.{decoded_number}
-use Rattle.decode.specs.declared.Decoded.{Decoded}
 use Rattle.operands.specs.OfOp.{plain, plain_op}
 use Rattle.operands.specs.declared.of_op.PlainOp.{PlainOp}
 use Rattle.vosemaqe.specs.declared.results.Report.{Report}
@@ -23,18 +20,18 @@ use Rattle.vosemaqe.specs.declared.results.Operands.{Operands}
 use Rattle.vosemaqe.specs.declared.results.Encoded.{Encoded}
 
 -- a destination: 0 is none, r + 1 the register r
-unfoldable pub dest_of : ℕ → Dest
+unfoldable pub dest_of : ℕ → Option ℕ
 dest_of zero = None
-dest_of (suc r) = Reg r
+dest_of (suc r) = Some r
 
 -- ---- compiling: number, words, slots, register, frame
 
 abbrev pub report : ℕ → ℕ → ℕ → ℕ → ℕ → Report
 report n w s r f = record { number = n; words = w; slots = s; register = r; frame = f }
 
-abbrev pub report_of : Compiled → Report
-report_of (Done w s r f) = report 0 w s r f
-report_of (Refused n) = report n 0 0 0 0
+abbrev pub report_of : Result Compiled Fault → Report
+report_of (Ok (record { words = w; slots = s; register = r; frame = f })) = report 0 w s r f
+report_of (Err n) = report n 0 0 0 0
 
 -- the cells and the lent buffers, c words, k kinds and p payloads of them, as the call leaves them
 pub record Reported (r : Report) (m : Res (ℕ × State)) (code kinds payloads : List ℕ) (c k p : ℕ) : Type 0 where
@@ -54,30 +51,30 @@ CompilesTo nodes params locals dest places code kinds payloads r code' kinds' pa
 abbrev pub evaluated : ℕ → ℕ → ℕ → Evaluated
 evaluated n k p = record { number = n; kind = k; payload = p }
 
-abbrev pub evaluated_of : Result → Evaluated
+abbrev pub evaluated_of : Answer → Evaluated
 evaluated_of (Answer.is v) = evaluated 0 (kind_of v) (payload_of v)
 evaluated_of (Answer.fault n) = evaluated n 0 0
 
 -- ---- decoding: number, opcode, five operands
 
-abbrev pub plain_in : Decoded → PlainOp
-plain_in (Decoded.Is i) = plain_op i
-plain_in Decoded.Bad = plain 0 0 0 0 0 0
+abbrev pub plain_in : Option Op → PlainOp
+plain_in (Some i) = plain_op i
+plain_in None = plain 0 0 0 0 0 0
 
 abbrev pub operands : ℕ → PlainOp → Operands
 operands n p = record { number = n; plain = p }
 
-abbrev pub operands_of : Decoded → Operands
+abbrev pub operands_of : Option Op → Operands
 operands_of d = operands (decoded_number d) (plain_in d)
 
 -- ---- encoding: number, word
 
-abbrev pub word_in : Made → ℕ
-word_in (Made.Fits w) = w.bits
-word_in Made.Refused = 0
+abbrev pub word_in : Option Insn → ℕ
+word_in (Some w) = w.bits
+word_in None = 0
 
 abbrev pub encoded : ℕ → ℕ → Encoded
 encoded n w = record { number = n; word = w }
 
-abbrev pub encoded_of : Made → Encoded
+abbrev pub encoded_of : Option Insn → Encoded
 encoded_of m = encoded (made_number m) (word_in m)

@@ -3,12 +3,12 @@ ghost use Rattle.std.specs.Prelude.{◌≡◌};
 ghost use Rattle.value.specs.Answer.{result_of};
 ghost use Rattle.vosemaqe.specs.Results.{dest_of, report_of, evaluated_of, operands_of, encoded_of};
 
+use faults::Fault;
+use insns::Insn;
+use insns::op::Op;
+use value::Value;
 use compile::buffers::Compiled;
-use decode::Decoded;
-use insns::Made;
 use operands::of_op::PlainOp;
-use table::Dest;
-use value::answer::Answer;
 
 // The cells of a compile.
 #[derive(Clone, Copy)]
@@ -43,27 +43,27 @@ pub struct Encoded {
 }
 
 // C has no enum with data, so a destination is one number: 0 is none, r + 1 is register r.
-pub fn dest_of(dest: u64) -> Dest
+pub fn dest_of(dest: u64) -> Option<u64>
     ensures { result ≡ dest_of dest }
 {
     if dest == 0 {
-        return Dest::None;
+        return None;
     }
-    Dest::Reg(dest - 1)
+    Some(dest - 1)
 }
 
-pub fn report_of(c: Compiled) -> Report
+pub fn report_of(c: Result<Compiled, Fault>) -> Report
     ensures { result ≡ report_of c }
 {
     match c {
-        Compiled::Done(w, s, r, f) => Report {
+        Ok(Compiled { words: w, slots: s, register: r, frame: f }) => Report {
             number: faults::NONE,
             words: w as u64,
             slots: s as u64,
             register: r as u64,
             frame: f as u64,
         },
-        Compiled::Refused(n) => Report {
+        Err(n) => Report {
             number: n,
             words: 0,
             slots: 0,
@@ -73,16 +73,16 @@ pub fn report_of(c: Compiled) -> Report
     }
 }
 
-pub fn evaluated_of(a: Answer) -> Evaluated
+pub fn evaluated_of(a: Result<Value, Fault>) -> Evaluated
     ensures { result ≡ evaluated_of (result_of a) }
 {
     match a {
-        Answer::Is(v) => Evaluated {
+        Ok(v) => Evaluated {
             number: faults::NONE,
             kind: value::kind_of(v) as u64,
             payload: value::payload_of(v),
         },
-        Answer::Fault(n) => Evaluated {
+        Err(n) => Evaluated {
             number: n,
             kind: 0,
             payload: 0,
@@ -90,16 +90,16 @@ pub fn evaluated_of(a: Answer) -> Evaluated
     }
 }
 
-pub fn operands_of(d: Decoded) -> Operands
+pub fn operands_of(d: Option<Op>) -> Operands
     ensures { result ≡ operands_of d }
 {
     match d {
-        Decoded::Is(i) => Operands {
+        Some(i) => Operands {
             number: faults::NONE,
             plain: operands::of_op::plain_op(i),
         },
-        Decoded::Bad => Operands {
-            number: faults::UNDECODED,
+        None => Operands {
+            number: Fault::Undecoded,
             plain: PlainOp {
                 opcode: 0,
                 a: 0,
@@ -112,16 +112,16 @@ pub fn operands_of(d: Decoded) -> Operands
     }
 }
 
-pub fn encoded_of(m: Made) -> Encoded
+pub fn encoded_of(m: Option<Insn>) -> Encoded
     ensures { result ≡ encoded_of m }
 {
     match m {
-        Made::Fits(w) => Encoded {
+        Some(w) => Encoded {
             number: faults::NONE,
             word: w.bits,
         },
-        Made::Refused => Encoded {
-            number: faults::NO_FIT,
+        None => Encoded {
+            number: Fault::NoFit,
             word: 0,
         },
     }

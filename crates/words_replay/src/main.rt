@@ -1,11 +1,11 @@
 // Replays words: operands to a constructor, words to `decode`, branches to `decode::patch`. Writes the answers; tools/oracle/README.md has the layout.
 #![tactic(auto)]
 
-use decode::Decoded;
-use decode::patch::Patched;
+use faults::Fault;
+use insns::op::Op;
 use insns::fields::{HALF_16, HALF_32, SIZE_8, SIZE_16, SIZE_32};
 use insns::op::{Disp, Imm16, Imm40};
-use insns::{Insn, Made};
+use insns::Insn;
 use operands::of_op::{PlainOp, plain_op};
 use std::io;
 use std::io::{Read, Write};
@@ -50,7 +50,7 @@ fn imm40_of(x: u64) -> Imm40 {
 }
 
 // The constructor of each opcode: first up to the operators,
-fn operator_word(op: u8, x1: u64, x2: u64, x3: u64, x4: u64, x5: u64) -> Made {
+fn operator_word(op: u8, x1: u64, x2: u64, x3: u64, x4: u64, x5: u64) -> Option<Insn> {
     let reg1 = reg_of(x1);
     let imm402 = imm40_of(x2);
     let reg2 = reg_of(x2);
@@ -88,12 +88,12 @@ fn operator_word(op: u8, x1: u64, x2: u64, x3: u64, x4: u64, x5: u64) -> Made {
         Insn::SUB_IMM16 => Insn::sub_imm16(reg1, reg2, imm163),
         Insn::MUL_IMM16 => Insn::mul_imm16(reg1, reg2, imm163),
         Insn::NOT => Insn::not(reg1, reg2),
-        _ => Made::Refused,
+        _ => None,
     }
 }
 
 // then those on closures, cells, fields and arrays,
-fn object_word(op: u8, x1: u64, x2: u64, x3: u64) -> Made {
+fn object_word(op: u8, x1: u64, x2: u64, x3: u64) -> Option<Insn> {
     let reg1 = reg_of(x1);
     let reg2 = reg_of(x2);
     let wide2 = wide_of(x2);
@@ -116,12 +116,12 @@ fn object_word(op: u8, x1: u64, x2: u64, x3: u64) -> Made {
         Insn::ARR_NEW => Insn::arr_new(reg1, wide2),
         Insn::ARR_PUSH => Insn::arr_push(reg1, reg2),
         Insn::BA_CLONE => Insn::ba_clone(reg1, reg2),
-        _ => Made::Refused,
+        _ => None,
     }
 }
 
 // the branches by one register or two,
-fn register_branch(op: u8, x1: u64, x2: u64, x3: u64) -> Made {
+fn register_branch(op: u8, x1: u64, x2: u64, x3: u64) -> Option<Insn> {
     let reg1 = reg_of(x1);
     let disp2 = disp_of(x2);
     let reg2 = reg_of(x2);
@@ -139,12 +139,12 @@ fn register_branch(op: u8, x1: u64, x2: u64, x3: u64) -> Made {
         Insn::JNLE => Insn::jnle(reg1, reg2, disp3),
         Insn::JNGT => Insn::jngt(reg1, reg2, disp3),
         Insn::JNGE => Insn::jnge(reg1, reg2, disp3),
-        _ => Made::Refused,
+        _ => None,
     }
 }
 
 // those with a literal, and jmp,
-fn literal_branch(op: u8, x1: u64, x2: u64, x3: u64) -> Made {
+fn literal_branch(op: u8, x1: u64, x2: u64, x3: u64) -> Option<Insn> {
     let disp1 = disp_of(x1);
     let reg1 = reg_of(x1);
     let imm162 = imm16_of(x2);
@@ -161,12 +161,12 @@ fn literal_branch(op: u8, x1: u64, x2: u64, x3: u64) -> Made {
         Insn::JNGT_IMM16 => Insn::jngt_imm16(reg1, imm162, disp3),
         Insn::JNGE_IMM16 => Insn::jnge_imm16(reg1, imm162, disp3),
         Insn::JMP => Insn::jmp(disp1),
-        _ => Made::Refused,
+        _ => None,
     }
 }
 
 // and calls and returns.
-fn call_word(op: u8, x1: u64, x2: u64, x3: u64, x4: u64) -> Made {
+fn call_word(op: u8, x1: u64, x2: u64, x3: u64, x4: u64) -> Option<Insn> {
     let imm401 = imm40_of(x1);
     let reg1 = reg_of(x1);
     let wide1 = wide_of(x1);
@@ -187,11 +187,11 @@ fn call_word(op: u8, x1: u64, x2: u64, x3: u64, x4: u64) -> Made {
         Insn::NEW_KNOWN_CTOR => Insn::new_known_ctor(reg1, small2, wide3),
         Insn::RET => Insn::ret(reg1),
         Insn::RET_IMM40 => Insn::ret_imm40(imm401),
-        _ => Made::Refused,
+        _ => None,
     }
 }
 
-fn construct(op: u64, x1: u64, x2: u64, x3: u64, x4: u64, x5: u64) -> Made {
+fn construct(op: u64, x1: u64, x2: u64, x3: u64, x4: u64, x5: u64) -> Option<Insn> {
     let k = small_of(op);
     if k <= Insn::NOT {
         return operator_word(k, x1, x2, x3, x4, x5);
@@ -238,24 +238,24 @@ fn write_plain<W: Write>(output: &mut W, n: u64, p: PlainOp) -> io::Result<()> {
     write_row(output, n, p.opcode, p.a, p.b, p.c, p.d, p.e)
 }
 
-fn write_made<W: Write>(output: &mut W, m: Made) -> io::Result<()> {
+fn write_made<W: Write>(output: &mut W, m: Option<Insn>) -> io::Result<()> {
     let n = wide(insns::number_of(m));
     match m {
-        Made::Fits(w) => write_row(output, n, w.bits, 0, 0, 0, 0, 0),
-        Made::Refused => write_row(output, n, 0, 0, 0, 0, 0, 0),
+        Some(w) => write_row(output, n, w.bits, 0, 0, 0, 0, 0),
+        None => write_row(output, n, 0, 0, 0, 0, 0, 0),
     }
 }
 
-fn write_decoded<W: Write>(output: &mut W, d: Decoded) -> io::Result<()> {
+fn write_decoded<W: Write>(output: &mut W, d: Option<Op>) -> io::Result<()> {
     let n = wide(decode::number_of(d));
     match d {
-        Decoded::Is(i) => write_plain(output, n, plain_op(i)),
-        Decoded::Bad => write_row(output, n, 0, 0, 0, 0, 0, 0),
+        Some(i) => write_plain(output, n, plain_op(i)),
+        None => write_row(output, n, 0, 0, 0, 0, 0, 0),
     }
 }
 
 // Patches the first n words of a store.
-fn patch_in(store: &mut [u64], n: u64, at: u64, target: u64) -> Patched {
+fn patch_in(store: &mut [u64], n: u64, at: u64, target: u64) -> Result<(), Fault> {
     if n < store.len() as u64 {
         let k = n as usize;
         return decode::patch::patch(&mut store[..k], at as usize, target);

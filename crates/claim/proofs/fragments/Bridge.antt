@@ -1,4 +1,6 @@
 -- What the generator emits and patches is the tree's fragment and takes no more than `needs` says, or it is refused because less is lent.
+use Rattle.std.specs.Prelude.{Option, Some, None}
+use Rattle.insns.specs.declared.op.Imm16.{Imm16}
 use mathlib.Core.Path.{◌≡◌, refl, sym, ap, subst, ◌∙◌}
 use mathlib.Core.Bool.{Bool, true, false, not, cond}
 use mathlib.Core.List.{List, [], ◌∷◌, ◌++◌, append_assoc, append-nil, map-append}
@@ -21,15 +23,8 @@ use Rattle.decode.specs.declared.patch.Branch.TheVariants.{Jmp}
 use Rattle.value.specs.Value.{Datum}
 use Rattle.value.specs.Value as Val
 use Rattle.table.specs.Tree.{Tree, leaf, unary, binary, ternary, Leaf, nil, yep, nope, int, float, ref, Unary, minus, not', Cmp, Binary, arith, cmp, and, or, RefBelow, RefsBelow}
-use Rattle.emit.specs.declared.state.Dst.{Dst}
-use Rattle.emit.specs.declared.state.Dst.TheVariants.{Any, To}
 use Rattle.fold.specs.declared.Tail.{Tail}
 use Rattle.fold.specs.declared.Tail.TheVariants as Tail
-use Rattle.fold.specs.declared.Fold.{Fold}
-use Rattle.fold.specs.declared.Fold.TheVariants.{Into, General}
-use Rattle.fold.specs.declared.literal.Lit.TheVariants.{Not}
-use Rattle.fold.specs.declared.literal.Imm.{Imm}
-use Rattle.fold.specs.declared.literal.Imm.TheVariants.{Imm16, NoImm}
 use Rattle.fold.specs.declared.How.{How}
 use Rattle.fold.specs.declared.How.TheVariants as How
 use Rattle.fold.specs.Literal.{fits_imm40, as_imm16}
@@ -125,13 +120,13 @@ module _ (need : Amounts) (room cap slot_cap : ℕ) (near : need.words ≤ far) 
   -- a value rule gives its fragment's words
   abbrev pub VMet : Amounts → Value → ValueF → Type 0
   VMet u g v =
-      (dst : Dst) (p : ℕ) (c : List ℕ) (ks : List Datum) (n f : ℕ) → n ≤ max_registers → DstLow dst max_registers → Ahead u p c ks n →
+      (dst : Option ℕ) (p : ℕ) (c : List ℕ) (ks : List Datum) (n f : ℕ) → n ≤ max_registers → DstLow dst max_registers → Ahead u p c ks n →
       Met Lack (g dst p (S c ks n f)) (after c ks f (v dst n ks)) (Fine u n (v dst n ks))
 
   -- a branch rule gives words M and jumps J that can be patched to its fragment
   pub data BMet (u : Amounts) (r : Res (List ℕ × State)) (c : List ℕ) (ks : List Datum) (n f : ℕ) (F : Bf) : Type 0 where
     branched : (J M : List ℕ) → r ≡ done (J, S (c ++ M) (ks ++ F.consts) n (max f F.need)) → FineB u n c M F J → BMet u r c ks n f F
-    denied : (e : ℕ) → r ≡ fail e → Lack e → BMet u r c ks n f F
+    denied : (e : Fault) → r ≡ fail e → Lack e → BMet u r c ks n f F
 
   abbrev pub TMet : Amounts → (ℕ → State → Res (List ℕ × State)) → (ℕ → List Datum → Bf) → Type 0
   TMet u g br = (p : ℕ) (c : List ℕ) (ks : List Datum) (n f : ℕ) → n ≤ max_registers → Ahead u p c ks n → BMet u (g p (S c ks n f)) c ks n f (br n ks)
@@ -233,9 +228,9 @@ module _ (need : Amounts) (room cap slot_cap : ℕ) (near : need.words ≤ far) 
   tail-met : (tail : Tail) (g : Value) (v : ValueF) (u : Amounts) → TailFits tail → VMet u g v → VMet (node u) (one_v tail g) (tail_f tail v)
   unfolding one_v put_to
   tail-met tail g v u h m dst p c ks n f top low ah =
-      let A = v Any n ks in
+      let A = v None n ks in
       let i = tail_op tail (d_reg dst n) A.reg in
-      met-bind _ (m Any p c ks n f top tt (ahead ah (omega linear) (omega linear) (omega linear) (λ e. e)))
+      met-bind _ (m None p c ks n f top tt (ahead ah (omega linear) (omega linear) (omega linear) (λ e. e)))
       (λ a.
       met-then
       (met-eq (state-eq (d_reg dst n) (after_one c A.code i) refl refl (omega linear))
@@ -257,13 +252,13 @@ module _ (need : Amounts) (room cap slot_cap : ℕ) (near : need.words ≤ far) 
       VMet (node (both u x)) (two_v o g h) (binary_f v w (Op.Three o))
   unfolding two_v put_to
   two-met o g h v w u x is m m' dst p c ks n f top low ah =
-      let A = v Any n ks in
-      let B = w Any A.next (ks ++ A.consts) in
+      let A = v None n ks in
+      let B = w None A.next (ks ++ A.consts) in
       let i = Op.Three o (d_reg dst n) A.reg B.reg in
-      met-bind _ (m Any p c ks n f top tt (ahead ah (omega linear) (omega linear) (omega linear) (λ e. omega linear)))
+      met-bind _ (m None p c ks n f top tt (ahead ah (omega linear) (omega linear) (omega linear) (λ e. omega linear)))
       (λ a.
       met-bind _
-      (m' Any p (c ++ words_of A.code) (ks ++ A.consts) A.next (max f A.need) a.top tt
+      (m' None p (c ++ words_of A.code) (ks ++ A.consts) A.next (max f A.need) a.top tt
       (ahead ah (omega linear) (omega (linear, length-append ks A.consts)) (omega (linear, after-length c A.code)) (λ e. omega linear)))
       (λ b.
       met-then
@@ -293,12 +288,12 @@ module _ (need : Amounts) (room cap slot_cap : ℕ) (near : need.words ≤ far) 
   pub into-met :
       (g : Value) (v : ValueF) (u : Amounts) → VMet u g v → (d p : ℕ) (c : List ℕ) (ks : List Datum) (n f : ℕ) → n ≤ max_registers → d < max_registers →
       Ahead u p c ks n →
-      let I = into_f (v (To d) n ks) d n in
+      let I = into_f (v (Some d) n ks) d n in
       Met Lack (into_d g d p (S c ks n f)) (d, S (c ++ words_of I.code) (ks ++ I.consts) n (max f I.need)) (FineI u n I)
   unfolding into_d move_to
   into-met g v u m d p c ks n f top low ah =
-      let F = v (To d) n ks in
-      met-bind _ (m (To d) p c ks n f top low ah)
+      let F = v (Some d) n ks in
+      met-bind _ (m (Some d) p c ks n f top low ah)
       (λ a.
       met-eq
       (state-eq d
@@ -358,10 +353,10 @@ module _ (need : Amounts) (room cap slot_cap : ℕ) (near : need.words ≤ far) 
 
   unary_test-met :
       (g : Value) (v : ValueF) (u : Amounts) (i : ℕ → Jump) (to : ℕ → ℕ → ℕ × State → Res (List ℕ × State)) → Leaps to i →
-      ((r : ℕ) → r < max_registers → BranchFits (i r)) → 0 < u.places → VMet u g v → TMet u (λ p s. bind (g Any p s) (to p s.next)) (unary_test_f v i)
+      ((r : ℕ) → r < max_registers → BranchFits (i r)) → 0 < u.places → VMet u g v → TMet u (λ p s. bind (g None p s) (to p s.next)) (unary_test_f v i)
   unary_test-met g v u i to leaps h some m p c ks n f top ah =
-      let A = v Any n ks in
-      value-branch _ (m Any p c ks n f top tt ah)
+      let A = v None n ks in
+      value-branch _ (m None p c ks n f top tt ah)
       (λ a.
       rw (leaps p n (after c ks f A))
       (leap-met u (i A.reg) p c A.code ks A.consts n f A.need (h A.reg a.low) a.fits some ah a.reach a.slots a.words))
@@ -369,20 +364,20 @@ module _ (need : Amounts) (room cap slot_cap : ℕ) (near : need.words ≤ far) 
   pair-met :
       (g h : Value) (v w : ValueF) (u x : Amounts) (i : ℕ → ℕ → Jump) (to : ℕ → ℕ → ℕ → ℕ × State → Res (List ℕ × State)) → ((r : ℕ) → Leaps (to r) (i r)) →
       ((r q : ℕ) → r < max_registers → q < max_registers → BranchFits (i r q)) → 0 < u.places → VMet u g v → VMet x h w →
-      TMet (pair u x) (λ p s. bind (g Any p s) (λ y. bind (h Any p y.1) (to y.0 p s.next))) (binary_test_f v w i)
+      TMet (pair u x) (λ p s. bind (g None p s) (λ y. bind (h None p y.1) (to y.0 p s.next))) (binary_test_f v w i)
   pair-met g h v w u x i to leaps fit some m m' p c ks n f top ah =
-      let A = v Any n ks in
-      let B = w Any A.next (ks ++ A.consts) in
+      let A = v None n ks in
+      let B = w None A.next (ks ++ A.consts) in
       let b = i A.reg B.reg in
       let F = A.code ++ B.code in
       let e : c ++ words_of A.code ++ words_of B.code ≡ c ++ words_of F =
       append_assoc c (words_of A.code) (words_of B.code) ∙ ap (λ (ws : List ℕ). c ++ ws) (sym (words_append A.code B.code)) in
       let k : ks ++ A.consts ++ B.consts ≡ ks ++ (A.consts ++ B.consts) = append_assoc ks A.consts B.consts in
       let l : max (max f A.need) B.need ≡ max f (max A.need B.need) = max_assoc f A.need B.need in
-      value-branch _ (m Any p c ks n f top tt (ahead ah (omega linear) (omega linear) (omega linear) (λ e. omega linear)))
+      value-branch _ (m None p c ks n f top tt (ahead ah (omega linear) (omega linear) (omega linear) (λ e. omega linear)))
       (λ a.
       value-branch _
-      (m' Any p (c ++ words_of A.code) (ks ++ A.consts) A.next (max f A.need) a.top tt
+      (m' None p (c ++ words_of A.code) (ks ++ A.consts) A.next (max f A.need) a.top tt
       (ahead ah (omega linear) (omega (linear, length-append ks A.consts)) (omega (linear, after-length c A.code)) (λ e. omega linear)))
       (λ q.
       rw (leaps A.reg p n (after (c ++ words_of A.code) (ks ++ A.consts) (max f A.need) B), e, k, l)
@@ -512,17 +507,17 @@ module _ (need : Amounts) (room cap slot_cap : ℕ) (near : need.words ≤ far) 
       n ≤ max_registers → d < max_registers → FineB t n c M T J → Ahead u (p - length J) (c ++ M) ks n →
       ((C : List ℕ) (K : List Datum) → length C ≤ length c + t.words + u.words + 1 → length K ≤ length ks + u.slots → Ahead x p C K n) →
       length c + t.words + u.words + x.words + 1 < need.words →
-      let A = into_f (P (To d) n ks) d n in
-      let E = into_f (Q (To d) n (ks ++ A.consts)) d n in
+      let A = into_f (P (Some d) n ks) d n in
+      let E = into_f (Q (Some d) n (ks ++ A.consts)) d n in
       let F = T.code (suc (length A.code)) ++ (A.code ++ jmp_by (length E.code) ∷ E.code) in
       Met Lack (arms_d a b d p (J, S (c ++ M) ks n f)) (d, S (c ++ words_of F) (ks ++ A.consts ++ E.consts) n (max (max f A.need) E.need))
       (AllFit F × FineI u n A × FineI x n E)
   unfolding arms_d turn_d
   arms-met a b P Q t u x ma mb d n p c ks f T M J top low g ahead-a ahead-b few =
       let Tw : ℕ → List ℕ = λ k. words_of (T.code k) in
-      let A = into_f (P (To d) n ks) d n in
+      let A = into_f (P (Some d) n ks) d n in
       let ks₁ = ks ++ A.consts in
-      let E = into_f (Q (To d) n ks₁) d n in
+      let E = into_f (Q (Some d) n ks₁) d n in
       let Aw = words_of A.code in
       let Ew = words_of E.code in
       let f₁ = max f A.need in
@@ -564,8 +559,8 @@ module _ (need : Amounts) (room cap slot_cap : ℕ) (near : need.words ≤ far) 
       let f' = max f (d_need dst n) in
       let T = X false n' ks in
       let ks₁ = ks ++ T.consts in
-      let A = into_f (P (To d) n' ks₁) d n' in
-      let E = into_f (Q (To d) n' (ks₁ ++ A.consts)) d n' in
+      let A = into_f (P (Some d) n' ks₁) d n' in
+      let E = into_f (Q (Some d) n' (ks₁ ++ A.consts)) d n' in
       met-bind _ (dest-met dst c ks n f top low (omega linear))
       (λ k.
       branch-value _ (mx false p c ks n' f' k.top (ahead ah (omega linear) (omega linear) (omega linear) (λ e. omega linear)))
@@ -611,11 +606,11 @@ module _ (need : Amounts) (room cap slot_cap : ℕ) (near : need.words ≤ far) 
       go (denied e i l) = denied e i l
 
   arith-met :
-      (fold : Fold) (o : Three) (g g₁ h : Value) (v v₁ w : ValueF) (u x : Amounts) → FoldFits fold → is_emitted (three_op o) ≡ true → VMet u g v → VMet u g₁ v₁ →
+      (fold : Option Tail) (o : Three) (g g₁ h : Value) (v v₁ w : ValueF) (u x : Amounts) → FoldFits fold → is_emitted (three_op o) ≡ true → VMet u g v → VMet u g₁ v₁ →
       VMet x h w → VMet (node (both u x)) (binary_v fold o g g₁ h) (arith_f fold o v v₁ w)
   unfolding binary_v
-  arith-met General o g g₁ h v v₁ w u x fit is m m₁ m' = two-met o g h v w u x is m m'
-  arith-met (Into tail) o g g₁ h v v₁ w u x fit is m m₁ m' =
+  arith-met None o g g₁ h v v₁ w u x fit is m m₁ m' = two-met o g h v w u x is m m'
+  arith-met (Some tail) o g g₁ h v v₁ w u x fit is m m₁ m' =
       less-V (one_v tail (operand tail g g₁)) (tail_f tail (operand_f tail v v₁))
       (record { registers = omega linear; slots = omega linear; words = omega linear; places = omega linear })
       (tail-met tail (operand tail g g₁) (operand_f tail v v₁) u fit (taken (takes_shift tail)))
@@ -635,17 +630,17 @@ module _ (need : Amounts) (room cap slot_cap : ℕ) (near : need.words ≤ far) 
   imm-met c z g v u fit some m = unary_test-met g v u (imm_on c z) (one_to (How.Imm c z)) (λ p mark x. refl) (λ r h. (h, fit)) some m
 
   compare-met :
-      (c : Cmp) (l r : Imm) (g h : Value) (v w : ValueF) (u x : Amounts) → ImmFits l → ImmFits r → 0 < u.places → 0 < x.places → VMet u g v → VMet x h w →
+      (c : Cmp) (l r : Option Imm16) (g h : Value) (v w : ValueF) (u x : Amounts) → ImmFits l → ImmFits r → 0 < u.places → 0 < x.places → VMet u g v → VMet x h w →
       BMets (pair u x) (compare_b c l r g h) (compare_f c l r v w)
   unfolding compare_b pair_b leap_to
-  compare-met c l (Imm16 z) g h v w u x fl fr some some' m m' sense =
+  compare-met c l (Some z) g h v w u x fl fr some some' m m' sense =
       less-T (one_b (How.Imm (branch_of c sense) z) g) (unary_test_f v (imm_on (branch_of c sense) z))
       (record { registers = omega linear; slots = omega linear; words = omega linear; places = omega linear }) (imm-met (branch_of c sense) z g v u fr some m)
-  compare-met c (Imm16 z) NoImm g h v w u x fl fr some some' m m' sense =
+  compare-met c (Some z) None g h v w u x fl fr some some' m m' sense =
       less-T (one_b (How.Imm (branch_of (mirror c) sense) z) h) (unary_test_f w (imm_on (branch_of (mirror c) sense) z))
       (record { registers = omega linear; slots = omega linear; words = omega linear; places = omega linear })
       (imm-met (branch_of (mirror c) sense) z h w x fl some' m')
-  compare-met c NoImm NoImm g h v w u x fl fr some some' m m' sense =
+  compare-met c None None g h v w u x fl fr some some' m m' sense =
       pair-met g h v w u x (pair_on (branch_of c sense)) (pair_to (branch_of c sense)) (λ r p mark x. refl) (λ r q hr hq. (hr, hq)) some m m'
 
   junction-met :

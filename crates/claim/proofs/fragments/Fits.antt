@@ -1,4 +1,5 @@
 -- Which instructions fit their fields, so that they have a word and the word decodes to them again; and that these are of the opcodes that are emitted.
+use Rattle.std.specs.Prelude.{Some}
 use mathlib.Core.Path.{◌≡◌, refl}
 use mathlib.Core.Bool.{true}
 use mathlib.Core.List.{List, [], ◌∷◌, ◌++◌, map}
@@ -16,14 +17,12 @@ use Rattle.insns.specs.declared.op.Arith.{Arith}
 use Rattle.insns.specs.declared.op.Sense.{Sense}
 use Rattle.insns.specs.declared.op.Cmp.{Cmp}
 use Rattle.insns.specs.declared.op.Imm40.{Imm40}
-use Rattle.insns.specs.declared.Made.{Made}
 use Rattle.insns.specs.Fields.{Field, raw_bits, raw, pack, all_fit, word_if}
 use Rattle.insns.specs.Bits.{twos, is_raw}
 use Rattle.insns.specs.Insns.{form_of, fields_of, made_of}
 use Rattle.insns.specs.Opcodes.{three_op, shift_op, arith_op, if_op, jump_op, jump_imm_op, op_of}
 use Rattle.table.specs.Tree as Tree
 use Rattle.decode.specs.Decode.{decode_of}
-use Rattle.decode.specs.declared.Decoded.{Decoded}
 use Rattle.decode.specs.declared.patch.Branch.{Branch}
 use Rattle.fold.specs.declared.Tail.{Tail}
 use Rattle.fold.specs.declared.Tail.TheVariants as Tail
@@ -48,11 +47,11 @@ pub record Fits (i : Op) : Type 0 where
   pub all : all_fit (fields_of i) ≡ true
   pub emitted : is_emitted (opcode_of i) ≡ true
 
-pub made : {i : Op} → Fits i → made_of i ≡ Made.Fits (record { bits = word i })
+pub made : {i : Op} → Fits i → made_of i ≡ Some (record { bits = word i })
 unfolding word word_if
 made h = rw h.all refl
 
-pub reads : {i : Op} → Fits i → decode_of (word i) ≡ Decoded.Is i
+pub reads : {i : Op} → Fits i → decode_of (word i) ≡ Some i
 reads {i} h = decode-made i (record { bits = word i }) (made h)
 
 abbrev pub AllFit : List Op → Type 0

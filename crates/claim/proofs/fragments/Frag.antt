@@ -1,6 +1,8 @@
 -- The generator's words as position-free fragments: what is emitted, with every displacement in place. A fragment depends on its destination, its
 -- first free register n and the slots taken so far. A branch fragment is given in addition the number of words between its end and the place where its
 -- jumps go.
+use Rattle.std.specs.Prelude.{Option, Some, None}
+use Rattle.insns.specs.declared.op.Imm16.{Imm16}
 use Prim.Native.Nat.{ℕ, suc, ◌+◌, ◌<◌, max}
 use mathlib.Core.Logic.{◌≢◌}
 use mathlib.Core.Bool.{Bool, true, false, not, cond}
@@ -21,13 +23,8 @@ use Rattle.decode.specs.declared.patch.Branch.{Branch}
 use Rattle.value.specs.Value.{Datum}
 use Rattle.value.specs.Value as Val
 use Rattle.table.specs.Tree.{Tree, leaf, unary, binary, ternary, Leaf, nil, yep, nope, int, float, ref, Unary, minus, not', Cmp, Binary, arith, cmp, and, or}
-use Rattle.emit.specs.declared.state.Dst.{Dst}
-use Rattle.emit.specs.declared.state.Dst.TheVariants.{Any, To}
 use Rattle.fold.specs.declared.Tail.{Tail}
 use Rattle.fold.specs.declared.Tail.TheVariants as Tail
-use Rattle.fold.specs.declared.Fold.{Fold}
-use Rattle.fold.specs.declared.Fold.TheVariants.{Into, General}
-use Rattle.fold.specs.declared.literal.Imm.{Imm}
 use Rattle.fold.specs.declared.How.{How}
 use Rattle.fold.specs.declared.How.TheVariants as How
 use Rattle.fold.specs.Literal.{fits_imm40, as_imm16}
@@ -68,29 +65,29 @@ how_on (How.Imm c z) = imm_on c z
 -- ---- destinations
 
 -- i is not the destination
-abbrev pub NotDst : Dst → ℕ → Type 0
-NotDst Any i = Unit {0}
-NotDst (To d) i = i ≢ d
+abbrev pub NotDst : Option ℕ → ℕ → Type 0
+NotDst None i = Unit {0}
+NotDst (Some d) i = i ≢ d
 
 -- the destination, if there is one, is below n
-abbrev pub DstLow : Dst → ℕ → Type 0
-DstLow Any n = Unit {0}
-DstLow (To d) n = d < n
+abbrev pub DstLow : Option ℕ → ℕ → Type 0
+DstLow None n = Unit {0}
+DstLow (Some d) n = d < n
 
 -- ---- fragments
 
 -- the register taken, the first free one after, and the registers reached (0: no new one)
-abbrev pub d_reg : Dst → ℕ → ℕ
-d_reg Any n = n
-d_reg (To d) n = d
+abbrev pub d_reg : Option ℕ → ℕ → ℕ
+d_reg None n = n
+d_reg (Some d) n = d
 
-abbrev pub d_next : Dst → ℕ → ℕ
-d_next Any n = suc n
-d_next (To d) n = n
+abbrev pub d_next : Option ℕ → ℕ → ℕ
+d_next None n = suc n
+d_next (Some d) n = n
 
-abbrev pub d_need : Dst → ℕ → ℕ
-d_need Any n = suc n
-d_need (To d) n = 0
+abbrev pub d_need : Option ℕ → ℕ → ℕ
+d_need None n = suc n
+d_need (Some d) n = 0
 
 pub record Vf : Type 0 where
   pub reg : ℕ
@@ -105,7 +102,7 @@ pub record Bf : Type 0 where
   pub code : ℕ → List Op
 
 abbrev pub ValueF : Type 0
-ValueF = Dst → ℕ → List Datum → Vf
+ValueF = (Option ℕ) → ℕ → List Datum → Vf
 
 abbrev pub BranchF : Type 0
 BranchF = Bool → ℕ → List Datum → Bf
@@ -117,7 +114,7 @@ pub record Frag : Type 0 where
   pub first : ValueF
 
 -- operands' words, then one that writes the destination
-abbrev pub op_f : Dst → ℕ → ℕ → List Datum → List Op → (ℕ → Op) → Vf
+abbrev pub op_f : Option ℕ → ℕ → ℕ → List Datum → List Op → (ℕ → Op) → Vf
 op_f dst n m cs c i =
     record { reg = d_reg dst n; next = d_next dst n; need = max m (d_need dst n); consts = cs; code = c ++ i (d_reg dst n) ∷ [] }
 
@@ -147,29 +144,29 @@ abbrev pub into_f : Vf → ℕ → ℕ → Vf
 into_f v d n = record { reg = d; next = n; need = v.need; consts = v.consts; code = v.code ++ moved d v.reg }
 
 abbrev pub unary_f : ValueF → (ℕ → ℕ → Op) → ValueF
-unary_f v i dst n ks = let A = v Any n ks in op_f dst n A.need A.consts A.code (λ d. i d A.reg)
+unary_f v i dst n ks = let A = v None n ks in op_f dst n A.need A.consts A.code (λ d. i d A.reg)
 
 -- the second of two operands, one after the other
 abbrev pub second : ValueF → ValueF → ℕ → List Datum → Vf
-second v w n ks = let A = v Any n ks in w Any A.next (ks ++ A.consts)
+second v w n ks = let A = v None n ks in w None A.next (ks ++ A.consts)
 
 abbrev pub binary_f : ValueF → ValueF → (ℕ → ℕ → ℕ → Op) → ValueF
 binary_f v w i dst n ks =
-    let A = v Any n ks in
+    let A = v None n ks in
     let B = second v w n ks in
     op_f dst n (max A.need B.need) (A.consts ++ B.consts) (A.code ++ B.code) (λ d. i d A.reg B.reg)
 
 abbrev pub unary_test_f : ValueF → (ℕ → Branch) → ℕ → List Datum → Bf
-unary_test_f v i n ks = let A = v Any n ks in leap_f A.need A.consts A.code (i A.reg)
+unary_test_f v i n ks = let A = v None n ks in leap_f A.need A.consts A.code (i A.reg)
 
 abbrev pub binary_test_f : ValueF → ValueF → (ℕ → ℕ → Branch) → ℕ → List Datum → Bf
 binary_test_f v w i n ks =
-    let A = v Any n ks in
+    let A = v None n ks in
     let B = second v w n ks in
     leap_f (max A.need B.need) (A.consts ++ B.consts) (A.code ++ B.code) (i A.reg B.reg)
 
 -- a test, words of one side, a jump over the other side, words of the other side
-abbrev pub join_f : Dst → ℕ → Bf → Vf → Vf → Vf
+abbrev pub join_f : Option ℕ → ℕ → Bf → Vf → Vf → Vf
 join_f dst n x a b =
     record {
       reg = d_reg dst n;
@@ -183,15 +180,15 @@ abbrev pub cond_f : BranchF → ValueF
 cond_f br dst n ks =
     let d = d_reg dst n in
     let m = d_next dst n in
-    join_f dst n (br true m ks) (load_f raw_false (To d) m ks) (load_f raw_true (To d) m ks)
+    join_f dst n (br true m ks) (load_f raw_false (Some d) m ks) (load_f raw_true (Some d) m ks)
 
 abbrev pub tern_f : BranchF → ValueF → ValueF → ValueF
 tern_f br v w dst n ks =
     let d = d_reg dst n in
     let m = d_next dst n in
     let X = br false m ks in
-    let A = into_f (v (To d) m (ks ++ X.consts)) d m in
-    let B = into_f (w (To d) m (ks ++ X.consts ++ A.consts)) d m in
+    let A = into_f (v (Some d) m (ks ++ X.consts)) d m in
+    let B = into_f (w (Some d) m (ks ++ X.consts ++ A.consts)) d m in
     join_f dst n X A B
 
 -- one operand, then a fold's instruction
@@ -201,15 +198,15 @@ tail_f tail v = unary_f v (tail_op tail)
 abbrev pub operand_f : Tail → ValueF → ValueF → ValueF
 operand_f tail a first = cond (takes_shift tail) first a
 
-abbrev pub arith_f : Fold → Three → ValueF → ValueF → ValueF → ValueF
-arith_f (Into tail) op a first b = tail_f tail (operand_f tail a first)
-arith_f General op a first b = binary_f a b (Op.Three op)
+abbrev pub arith_f : Option Tail → Three → ValueF → ValueF → ValueF → ValueF
+arith_f (Some tail) op a first b = tail_f tail (operand_f tail a first)
+arith_f None op a first b = binary_f a b (Op.Three op)
 
 abbrev pub picked_f : Picked ValueF → (ℕ → List Datum → Bf) → ℕ → List Datum → Bf
 picked_f (one a how) both = unary_test_f a (how_on how)
 picked_f two both = both
 
-abbrev pub compare_f : Cmp → Imm → Imm → ValueF → ValueF → BranchF
+abbrev pub compare_f : Cmp → Option Imm16 → Option Imm16 → ValueF → ValueF → BranchF
 compare_f c left right a b sense = picked_f (compare_pick c a b left right sense) (binary_test_f a b (pair_on (branch_of c sense)))
 
 -- where the left side's jumps go, counted from the right side's end: to the caller's target (true), or to the end

@@ -14,7 +14,7 @@ use mir.Val.{to_z}
 use borrow.Author.Tests.{eqb-true, ne_eqb, lt-ltb, leb-true}
 use Rattle.insns.specs.declared.op.Sense.TheVariants as Sense
 use Rattle.value.specs.Value.{Datum, nil, bool, int, float}
-use Rattle.value.specs.Answer.{Result, is, fault, truth as yes, is_number}
+use Rattle.value.specs.Answer.{Answer, is, fault, truth as yes, is_number}
 use Rattle.ops.specs.Compare.{mixed, compare_numbers, compare_others, compare_of, same}
 use Rattle.ops.specs.Not.{not_of, negate}
 use Rattle.ops.specs.Ops.{eq_of, ne_of, binary_of}
@@ -84,7 +84,7 @@ mask_is z lo len r = cut ∙ sym r.is
 
 -- ---- operators: the machine's by number, the tree's by name
 
-both_is : (k : ℕ) (f : Datum → Datum → Result) → ((x y : Datum) → binary_of k x y ≡ f x y) → (a b : Result) → M.both k a b ≡ Apply.both f a b
+both_is : (k : ℕ) (f : Datum → Datum → Answer) → ((x y : Datum) → binary_of k x y ≡ f x y) → (a b : Answer) → M.both k a b ≡ Apply.both f a b
 unfolding M.both Apply.both Apply.on
 both_is k f e (is x) (is y) = e x y
 both_is k f e (is x) (fault n) = refl
@@ -103,21 +103,21 @@ arith_is mul x y = refl
 arith_is div x y = refl
 arith_is mod' x y = refl
 
-pub three-is : (o : Arith) (a b : Result) → M.both (Forms.three_kind (three_of o)) a b ≡ Apply.both (E.arith_of o) a b
+pub three-is : (o : Arith) (a b : Answer) → M.both (Forms.three_kind (three_of o)) a b ≡ Apply.both (E.arith_of o) a b
 three-is o = both_is (Forms.three_kind (three_of o)) (E.arith_of o) (arith_is o)
 
 -- an operand's fault is handed on
-pub both_left : (k e : ℕ) (b : Result) → M.both k (fault e) b ≡ fault e
+pub both_left : (k e : ℕ) (b : Answer) → M.both k (fault e) b ≡ fault e
 unfolding M.both
 both_left k e b = refl
 
-pub both_right : (k : ℕ) (x : Datum) (e : ℕ) → M.both k (is x) (fault e) ≡ fault e
+pub both_right : (k : ℕ) (x : Datum) (e : Fault) → M.both k (is x) (fault e) ≡ fault e
 unfolding M.both
 both_right k x e = refl
 
 -- ---- branches
 
-pub opposite : (r : Result) → test (M.inverted r) ≡ same_t false (test r)
+pub opposite : (r : Answer) → test (M.inverted r) ≡ same_t false (test r)
 unfolding M.inverted negate not_of
 opposite (is nil) = refl
 opposite (is (bool b)) = refl
@@ -134,23 +134,23 @@ twice (truth true) = refl
 twice (truth false) = refl
 twice (wrong e) = refl
 
-cmp-is : (k : ℕ) (c : Cmp) → ((x y : Datum) → binary_of k x y ≡ E.cmp_of c x y) → (s : Bool) (a b : Result) → test (cond s (M.both k a b) (M.inverted (M.both k a b))) ≡ same_t s (test (Apply.both (E.cmp_of c) a b))
+cmp-is : (k : ℕ) (c : Cmp) → ((x y : Datum) → binary_of k x y ≡ E.cmp_of c x y) → (s : Bool) (a b : Answer) → test (cond s (M.both k a b) (M.inverted (M.both k a b))) ≡ same_t s (test (Apply.both (E.cmp_of c) a b))
 cmp-is k c e true a b = ap test (both_is k (E.cmp_of c) e a b) ∙ as-it-is (test (Apply.both (E.cmp_of c) a b))
-cmp-is k c e false a b = opposite (M.both k a b) ∙ ap (λ (r : Result). same_t false (test r)) (both_is k (E.cmp_of c) e a b)
+cmp-is k c e false a b = opposite (M.both k a b) ∙ ap (λ (r : Answer). same_t false (test r)) (both_is k (E.cmp_of c) e a b)
 
 -- Ne is Not of Eq
 ne-eq : (x y : Datum) → ne_of x y ≡ M.inverted (eq_of x y)
 unfolding M.inverted
 ne-eq x y = ne-is x y
 
-not_equal : (a b : Result) → Apply.both (E.cmp_of ne) a b ≡ M.inverted (Apply.both (E.cmp_of eq) a b)
+not_equal : (a b : Answer) → Apply.both (E.cmp_of ne) a b ≡ M.inverted (Apply.both (E.cmp_of eq) a b)
 unfolding Apply.both Apply.on E.cmp_of M.inverted negate
 not_equal (is x) (is y) = ne-eq x y
 not_equal (is x) (fault n) = refl
 not_equal (fault n) b = refl
 
 -- the branch for a comparison and a sense: not less is not less, also of a NaN and of a fault
-pub jump-is : (c : Cmp) (s : Bool) (a b : Result) → test (Forms.jump_test (branch_of c s) a b) ≡ same_t s (test (Apply.both (E.cmp_of c) a b))
+pub jump-is : (c : Cmp) (s : Bool) (a b : Answer) → test (Forms.jump_test (branch_of c s) a b) ≡ same_t s (test (Apply.both (E.cmp_of c) a b))
 unfolding Forms.jump_test E.cmp_of
 jump-is eq true a b = cmp-is 18 eq (λ x y. refl) true a b
 jump-is ne true a b = cmp-is 19 ne (λ x y. refl) true a b
@@ -168,7 +168,7 @@ jump-is le false a b = cmp-is 21 le (λ x y. refl) false a b
 jump-is gt false a b = cmp-is 22 gt (λ x y. refl) false a b
 jump-is ge false a b = cmp-is 23 ge (λ x y. refl) false a b
 
-pub sense-is : (s : Bool) (r : Result) → test (Forms.if_test (cond s Sense.Yes Sense.No) r) ≡ same_t s (test r)
+pub sense-is : (s : Bool) (r : Answer) → test (Forms.if_test (cond s Sense.Yes Sense.No) r) ≡ same_t s (test r)
 unfolding Forms.if_test
 sense-is true r = as-it-is (test r)
 sense-is false r = opposite r
@@ -206,7 +206,7 @@ mirrored le z x = refl
 mirrored gt z x = refl
 mirrored ge z x = refl
 
-pub mirror-is : (c : Cmp) (z : ℤ) (a : Result) → Apply.both (E.cmp_of (mirror c)) a (is (int z)) ≡ Apply.both (E.cmp_of c) (is (int z)) a
+pub mirror-is : (c : Cmp) (z : ℤ) (a : Answer) → Apply.both (E.cmp_of (mirror c)) a (is (int z)) ≡ Apply.both (E.cmp_of c) (is (int z)) a
 unfolding Apply.both Apply.on
 mirror-is c z (is x) = mirrored c z x
 mirror-is c z (fault n) = refl

@@ -1,5 +1,6 @@
 -- Jumps that are patched later. The words of a branch are emitted with displacement 0 and their jumps are open: patched to any place behind, they are the
 -- fragment's words for that place.
+use Rattle.std.specs.Prelude.{Ok}
 use mathlib.Core.Path.{◌≡◌, refl, sym, ap, ◌∙◌}
 use mathlib.Core.Bool.{Bool, true, false, cond}
 use mathlib.Core.List.{List, [], ◌∷◌, ◌++◌, append_assoc}
@@ -11,8 +12,6 @@ use lib.Seq.{get_or_at, set_at}
 use borrow.Author.Tests.{lt-ltb, le-ltb}
 use Rattle.insns.specs.Insns.{made_of}
 use Rattle.decode.specs.declared.patch.Branch.{Branch}
-use Rattle.decode.specs.declared.patch.Aimed.{Aimed}
-use Rattle.decode.specs.declared.patch.Patched.{Patched}
 use Rattle.decode.specs.Patch.{difference, aimed_made, aim_word, Patching, is_done, patch_of, patch_all}
 use Rattle.decode.specs.Aim.{branch_by}
 use Rattle.decode.proofs.patch.Facts.{aim-branch}
@@ -21,7 +20,7 @@ use Rattle.claim.proofs.fragments.Fits.{word, made, reads, far, BranchFits, bran
 
 -- patching went through, and left these words
 abbrev pub patched : List ℕ → Patching
-patched ws = record { answer = Patched.Done; words = ws }
+patched ws = record { answer = (Ok tt); words = ws }
 
 -- ---- one patch
 
@@ -30,7 +29,7 @@ past p k =
     ap (λ (t : Bool). cond t (negsuc (suc p - suc (suc p + k))) (pos (suc p + k - suc p))) (le-ltb (suc p + k) (suc p) (omega arith))
     ∙ ap pos (omega arith)
 
-aim : (b : Branch) (p k : ℕ) → BranchFits b → k < far → aim_word (word (aimed b 0)) p (suc p + k) ≡ Aimed.To (word (aimed b k))
+aim : (b : Branch) (p k : ℕ) → BranchFits b → k < far → aim_word (word (aimed b 0)) p (suc p + k) ≡ Ok (word (aimed b k))
 aim b p k h hk =
     aim-branch (word (aimed b 0)) p (suc p + k) b (record { by = pos 0 }) (reads (branch_fits b h 0 (omega arith)))
     ∙ ap (λ (z : ℤ). aimed_made (made_of (branch_by b (record { by = z })))) (past p k)

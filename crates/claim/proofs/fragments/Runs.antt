@@ -1,4 +1,5 @@
 -- Instructions at a place among words, paths of the machine, and how runs are put one after the other. No tree is named here.
+use Rattle.std.specs.Prelude.{Option, Some, None}
 use mathlib.Core.Path.{◌≡◌, refl, ap, ◌∙◌, subst}
 use mathlib.Core.Bool.{Bool, true, false, cond}
 use mathlib.Core.List.{List, [], ◌∷◌, ◌++◌, append_assoc}
@@ -12,14 +13,11 @@ use borrow.Author.Tests.{lt-ltb, le-leb}
 use Rattle.faults.specs.Numbers.{wrong_kind, out_of_range}
 use Rattle.insns.specs.declared.op.Op.{Op}
 use Rattle.decode.specs.Decode.{decode_of}
-use Rattle.decode.specs.declared.Decoded.{Decoded}
 use Rattle.value.specs.Value.{Datum, nil, bool, int, float}
-use Rattle.value.specs.Answer.{Result, is, fault}
+use Rattle.value.specs.Answer.{Answer, is, fault}
 use Rattle.effect.specs.Effect.{write, branch, effect_of}
 use Rattle.machine.specs.Step.{Next, go, put, stop, settle_of, put_of, branch_of, land_of}
 use Rattle.machine.specs.Datums.{value_at}
-use Rattle.emit.specs.declared.state.Dst.{Dst}
-use Rattle.emit.specs.declared.state.Dst.TheVariants.{Any, To}
 use Rattle.codegen.specs.Gen.{same}
 use Rattle.claim.proofs.fragments.Shared.{Held}
 use Rattle.claim.proofs.fragments.Frag.{NotDst, DstLow, Vf, Bf, d_reg, d_next, d_need, jmp_by}
@@ -30,7 +28,7 @@ pub data Truth : Type 0 where
   truth : Bool → Truth
   wrong : ℕ → Truth
 
-abbrev pub test : Result → Truth
+abbrev pub test : Answer → Truth
 test (is nil) = wrong wrong_kind
 test (is (bool b)) = truth b
 test (is (int z)) = wrong wrong_kind
@@ -61,7 +59,7 @@ value-other rs d i v n = rw (length-set, get_or-set_other)
 -- the word at p is the instruction i
 pub record Stands (C : List ℕ) (p : ℕ) (i : Op) : Type 0 where
   pub inside : p < length C
-  pub reads : decode_of (get_or C p 0) ≡ Decoded.Is i
+  pub reads : decode_of (get_or C p 0) ≡ Some i
 
 -- the instructions stand among the words C from p up to q
 abbrev pub At : List ℕ → ℕ → List Op → ℕ → Type 0
@@ -133,12 +131,12 @@ Stops C K p rs e = (i : Op) × Stands C p i × (step K (length C) p rs i ≡ sto
 -- ---- what a run leaves alone
 
 -- only the destination and the registers from lo up to hi may have changed
-pub record Keep (dst : Dst) (lo hi : ℕ) (rs rs' : List Datum) : Type 0 where
+pub record Keep (dst : Option ℕ) (lo hi : ℕ) (rs rs' : List Datum) : Type 0 where
   pub size : length rs' ≡ length rs
   pub low : (i : ℕ) → i < lo → NotDst dst i → value_at rs' i ≡ value_at rs i
   pub high : (i : ℕ) → hi ≤ i → NotDst dst i → value_at rs' i ≡ value_at rs i
 
-pub keep-refl : (dst : Dst) (lo hi : ℕ) (rs : List Datum) → Keep dst lo hi rs rs
+pub keep-refl : (dst : Option ℕ) (lo hi : ℕ) (rs : List Datum) → Keep dst lo hi rs rs
 keep-refl dst lo hi rs = record { size = refl; low = λ i h d. refl; high = λ i h d. refl }
 
 -- the slots begin with W, the b locals are in place, and there is room
@@ -150,7 +148,7 @@ pub record Good (W ls : List Datum) (b n need : ℕ) (K rs : List Datum) : Type 
 
 -- From p, with the locals in place, the machine comes to q in `count` steps, of which there are no more than words up to top. `count` is the same
 -- for all registers: the temporaries decide nothing.
-pub record Runs (C : List ℕ) (W ls : List Datum) (b n need p top q : ℕ) (dst : Dst) (P : List Datum → Type 0) : Type 0 where
+pub record Runs (C : List ℕ) (W ls : List Datum) (b n need p top q : ℕ) (dst : Option ℕ) (P : List Datum → Type 0) : Type 0 where
   pub count : ℕ
   pub few : p + count ≤ top
   pub path : (K rs : List Datum) → Good W ls b n need K rs → (rs' : List Datum) × Path C K p rs count q rs' × Keep dst n need rs rs' × P rs'
@@ -161,12 +159,12 @@ pub record Fails (C : List ℕ) (W ls : List Datum) (b n need p top e : ℕ) : T
   pub few : p + count < top
   pub path :
       (K rs : List Datum) → Good W ls b n need K rs →
-      (rs' : List Datum) × Path C K p rs count place rs' × Stops C K place rs' e × Keep Any n need rs rs'
+      (rs' : List Datum) × Path C K p rs count place rs' × Stops C K place rs' e × Keep None n need rs rs'
 
 -- ---- laws of Keep and Good
 
 pub keep-then :
-    {dst : Dst} {n₁ m₁ n₂ m₂ : ℕ} {rs rs' rs'' : List Datum} → n₁ ≤ n₂ → Keep Any n₁ m₁ rs rs' → Keep dst n₂ m₂ rs' rs'' →
+    {dst : Option ℕ} {n₁ m₁ n₂ m₂ : ℕ} {rs rs' rs'' : List Datum} → n₁ ≤ n₂ → Keep None n₁ m₁ rs rs' → Keep dst n₂ m₂ rs' rs'' →
     Keep dst n₁ (max m₁ m₂) rs rs''
 keep-then le k l =
     record {
@@ -175,32 +173,32 @@ keep-then le k l =
       high = λ i h d. l.high i (omega arith) d ∙ k.high i (omega arith) tt;
     }
 
-pub keep-more : {dst : Dst} {n m m' : ℕ} {rs rs' : List Datum} → m ≤ m' → Keep dst n m rs rs' → Keep dst n m' rs rs'
+pub keep-more : {dst : Option ℕ} {n m m' : ℕ} {rs rs' : List Datum} → m ≤ m' → Keep dst n m rs rs' → Keep dst n m' rs rs'
 keep-more le k = record { size = k.size; low = k.low; high = λ i h. k.high i (omega arith) }
 
 -- a destination that was taken is one temporary more
 pub keep-own :
-    (dst : Dst) (n m : ℕ) {rs rs' : List Datum} → Keep (To (d_reg dst n)) (d_next dst n) m rs rs' → Keep dst n (max (d_need dst n) m) rs rs'
-keep-own Any n m k =
+    (dst : Option ℕ) (n m : ℕ) {rs rs' : List Datum} → Keep (Some (d_reg dst n)) (d_next dst n) m rs rs' → Keep dst n (max (d_need dst n) m) rs rs'
+keep-own None n m k =
     record { size = k.size; low = λ i h d. k.low i (omega arith) (omega arith); high = λ i h d. k.high i (omega arith) (omega arith) }
-keep-own (To d) n m k = keep-more (omega arith) k
+keep-own (Some d) n m k = keep-more (omega arith) k
 
-pub keep-own-none : (dst : Dst) (n m : ℕ) {rs rs' : List Datum} → Keep Any (d_next dst n) m rs rs' → Keep Any n (max (d_need dst n) m) rs rs'
-keep-own-none Any n m k =
+pub keep-own-none : (dst : Option ℕ) (n m : ℕ) {rs rs' : List Datum} → Keep None (d_next dst n) m rs rs' → Keep None n (max (d_need dst n) m) rs rs'
+keep-own-none None n m k =
     record { size = k.size; low = λ i h d. k.low i (omega arith) tt; high = λ i h d. k.high i (omega arith) tt }
-keep-own-none (To d) n m k = keep-more (omega arith) k
+keep-own-none (Some d) n m k = keep-more (omega arith) k
 
 -- one register is written
 pub keep-write :
-    (dst : Dst) (n m : ℕ) (v : Datum) {rs rs' : List Datum} → Keep Any n m rs rs' →
+    (dst : Option ℕ) (n m : ℕ) (v : Datum) {rs rs' : List Datum} → Keep None n m rs rs' →
     Keep dst n (max m (d_need dst n)) rs (set rs' (d_reg dst n) v)
-keep-write Any n m v {rs} {rs'} k =
+keep-write None n m v {rs} {rs'} k =
     record {
       size = length-set rs' n v ∙ k.size;
       low = λ i h d. value-other rs' n i v (omega arith) ∙ k.low i h tt;
       high = λ i h d. value-other rs' n i v (omega arith) ∙ k.high i (omega arith) tt;
     }
-keep-write (To e) n m v {rs} {rs'} k =
+keep-write (Some e) n m v {rs} {rs'} k =
     record {
       size = length-set rs' e v ∙ k.size;
       low = λ i h d. value-other rs' e i v d ∙ k.low i h tt;
@@ -208,7 +206,7 @@ keep-write (To e) n m v {rs} {rs'} k =
     }
 
 -- the destination is written once more
-pub keep-again : {d n m : ℕ} (v : Datum) {rs rs' : List Datum} → Keep (To d) n m rs rs' → Keep (To d) n m rs (set rs' d v)
+pub keep-again : {d n m : ℕ} (v : Datum) {rs rs' : List Datum} → Keep (Some d) n m rs rs' → Keep (Some d) n m rs (set rs' d v)
 keep-again {d} v {rs'} k =
     record {
       size = length-set rs' d v ∙ k.size;
@@ -217,7 +215,7 @@ keep-again {d} v {rs'} k =
     }
 
 pub good-keep :
-    {W ls : List Datum} {b n m n' m' : ℕ} {K rs rs' : List Datum} → b ≤ n → n' ≤ max n m → Good W ls b n (max m m') K rs → Keep Any n m rs rs' →
+    {W ls : List Datum} {b n m n' m' : ℕ} {K rs rs' : List Datum} → b ≤ n → n' ≤ max n m → Good W ls b n (max m m') K rs → Keep None n m rs rs' →
     Good W ls b n' m' K rs'
 good-keep le le' g k =
     record {
@@ -234,8 +232,8 @@ good-less le le' g = record { slots = g.slots; agree = g.agree; low = omega (ari
 
 module _ (C : List ℕ) (W ls : List Datum) (b : ℕ) where
   pub runs_then :
-      {dst : Dst} {n₁ m₁ n₂ m₂ p top₁ mid top q : ℕ} {P Q : List Datum → Type 0} → b ≤ n₁ → n₁ ≤ n₂ → n₂ ≤ max n₁ m₁ → top₁ ≤ mid →
-      Runs C W ls b n₁ m₁ p top₁ mid Any P → Runs C W ls b n₂ m₂ mid top q dst Q →
+      {dst : Option ℕ} {n₁ m₁ n₂ m₂ p top₁ mid top q : ℕ} {P Q : List Datum → Type 0} → b ≤ n₁ → n₁ ≤ n₂ → n₂ ≤ max n₁ m₁ → top₁ ≤ mid →
+      Runs C W ls b n₁ m₁ p top₁ mid None P → Runs C W ls b n₂ m₂ mid top q dst Q →
       ((rs rs' : List Datum) → Keep dst n₂ m₂ rs rs' → P rs → P rs') → Runs C W ls b n₁ (max m₁ m₂) p top q dst (λ rs. P rs × Q rs)
   runs_then {n₁} {m₁} {n₂} {m₂} le le' le'' le''' r s stable =
       record {
@@ -250,7 +248,7 @@ module _ (C : List ℕ) (W ls : List Datum) (b : ℕ) where
 
   pub fails-then :
       {n₁ m₁ n₂ m₂ p top₁ mid top e : ℕ} {P : List Datum → Type 0} → b ≤ n₁ → n₁ ≤ n₂ → n₂ ≤ max n₁ m₁ → top₁ ≤ mid →
-      Runs C W ls b n₁ m₁ p top₁ mid Any P → Fails C W ls b n₂ m₂ mid top e → Fails C W ls b n₁ (max m₁ m₂) p top e
+      Runs C W ls b n₁ m₁ p top₁ mid None P → Fails C W ls b n₂ m₂ mid top e → Fails C W ls b n₁ (max m₁ m₂) p top e
   fails-then le le' le'' le''' r s =
       record {
         count = r.count + s.count;
@@ -264,7 +262,7 @@ module _ (C : List ℕ) (W ls : List Datum) (b : ℕ) where
       }
 
   pub runs-more :
-      {dst : Dst} {n m m' p top top' q q' : ℕ} {P Q : List Datum → Type 0} → m ≤ m' → top ≤ top' → q ≡ q' → ((rs : List Datum) → P rs → Q rs) →
+      {dst : Option ℕ} {n m m' p top top' q q' : ℕ} {P Q : List Datum → Type 0} → m ≤ m' → top ≤ top' → q ≡ q' → ((rs : List Datum) → P rs → Q rs) →
       Runs C W ls b n m p top q dst P → Runs C W ls b n m' p top' q' dst Q
   runs-more {p} le le' e f r =
       record {
@@ -286,12 +284,12 @@ module _ (C : List ℕ) (W ls : List Datum) (b : ℕ) where
       }
 
   -- the register that a destination takes
-  good-own : (dst : Dst) (n m : ℕ) {K rs : List Datum} → Good W ls b n (max (d_need dst n) m) K rs → Good W ls b (d_next dst n) m K rs
-  good-own Any n m g = good-less (omega arith) (omega arith) g
-  good-own (To d) n m g = good-less (omega arith) (omega arith) g
+  good-own : (dst : Option ℕ) (n m : ℕ) {K rs : List Datum} → Good W ls b n (max (d_need dst n) m) K rs → Good W ls b (d_next dst n) m K rs
+  good-own None n m g = good-less (omega arith) (omega arith) g
+  good-own (Some d) n m g = good-less (omega arith) (omega arith) g
 
   pub runs_own :
-      (dst : Dst) (n m : ℕ) {p top q : ℕ} {P : List Datum → Type 0} → Runs C W ls b (d_next dst n) m p top q (To (d_reg dst n)) P →
+      (dst : Option ℕ) (n m : ℕ) {p top q : ℕ} {P : List Datum → Type 0} → Runs C W ls b (d_next dst n) m p top q (Some (d_reg dst n)) P →
       Runs C W ls b n (max (d_need dst n) m) p top q dst P
   runs_own dst n m r =
       record {
@@ -300,7 +298,7 @@ module _ (C : List ℕ) (W ls : List Datum) (b : ℕ) where
         path = λ K rs g. let x = r.path K rs (good-own dst n m g) in (x.0, x.1, keep-own dst n m x.2, x.3);
       }
 
-  pub fails-own : (dst : Dst) (n m : ℕ) {p top e : ℕ} → Fails C W ls b (d_next dst n) m p top e → Fails C W ls b n (max (d_need dst n) m) p top e
+  pub fails-own : (dst : Option ℕ) (n m : ℕ) {p top e : ℕ} → Fails C W ls b (d_next dst n) m p top e → Fails C W ls b n (max (d_need dst n) m) p top e
   fails-own dst n m r =
       record {
         count = r.count;
@@ -310,12 +308,12 @@ module _ (C : List ℕ) (W ls : List Datum) (b : ℕ) where
       }
 
   -- nothing to do
-  pub runs-rest : (n p : ℕ) → Runs C W ls b n 0 p p p Any (λ rs. Unit {0})
-  runs-rest n p = record { count = 0; few = omega arith; path = λ K rs g. (rs, rest, keep-refl Any n 0 rs, tt) }
+  pub runs-rest : (n p : ℕ) → Runs C W ls b n 0 p p p None (λ rs. Unit {0})
+  runs-rest n p = record { count = 0; few = omega arith; path = λ K rs g. (rs, rest, keep-refl None n 0 rs, tt) }
 
 -- ---- one word
 
-write-yes : (len room p d : ℕ) (res : Result) → d < room → settle_of len room p (write d res) ≡ put_of p d res
+write-yes : (len room p d : ℕ) (res : Answer) → d < room → settle_of len room p (write d res) ≡ put_of p d res
 write-yes len room p d res h = ap (λ (t : Bool). cond t (put_of p d res) (stop out_of_range)) (lt-ltb d room h)
 
 -- a branch forward, by its test
@@ -327,7 +325,7 @@ land_yes : (len p k : ℕ) → suc p + k ≤ len → land_of len p (pos k) ≡ g
 unfolding land_of
 land_yes len p k h = ap (λ (t : Bool). cond t (go (suc p + k)) (stop out_of_range)) (le-leb (suc p + k) len h)
 
-branch-test : (len p k : ℕ) (res : Result) → suc p + k ≤ len → branch_of len p (pos k) res ≡ jump_t p k (test res)
+branch-test : (len p k : ℕ) (res : Answer) → suc p + k ≤ len → branch_of len p (pos k) res ≡ jump_t p k (test res)
 branch-test len p k (is nil) h = refl
 branch-test len p k (is (bool true)) h = land_yes len p k h
 branch-test len p k (is (bool false)) h = refl
@@ -338,33 +336,33 @@ branch-test len p k (fault e) h = refl
 -- ---- what is claimed of fragments
 
 module _ (C : List ℕ) (W ls : List Datum) (b : ℕ) where
-  abbrev pub VRuns : Dst → ℕ → ℕ → ℕ → ℕ → ℕ → Result → Type 0
+  abbrev pub VRuns : Option ℕ → ℕ → ℕ → ℕ → ℕ → ℕ → Answer → Type 0
   VRuns dst n need reg p q (is v) = Runs C W ls b n need p q q dst (λ rs. value_at rs reg ≡ is v)
   VRuns dst n need reg p q (fault e) = Fails C W ls b n need p q e
 
   -- a value: with its first free register n and the slots ks
-  pub record VSound (dst : Dst) (n : ℕ) (ks : List Datum) (F : Vf) (res : Result) : Type 0 where
+  pub record VSound (dst : Option ℕ) (n : ℕ) (ks : List Datum) (F : Vf) (res : Answer) : Type 0 where
     pub more : n ≤ F.next
     pub most : F.next ≤ max n F.need
     pub low : F.reg < F.next
     pub runs : (p q : ℕ) → At C p F.code q → Front W (ks ++ F.consts) → VRuns dst n F.need F.reg p q res
 
   abbrev pub BRuns : Bool → ℕ → ℕ → ℕ → ℕ → ℕ → Truth → Type 0
-  BRuns sense n need p q k (truth v) = Runs C W ls b n need p q (cond (same sense v) (q + k) q) Any (λ rs. Unit {0})
+  BRuns sense n need p q k (truth v) = Runs C W ls b n need p q (cond (same sense v) (q + k) q) None (λ rs. Unit {0})
   BRuns sense n need p q k (wrong e) = Fails C W ls b n need p q e
 
   -- a branch: j words lie between its end and where its jumps go
   pub record BSound (sense : Bool) (n : ℕ) (ks : List Datum) (F : Bf) (res : Truth) : Type 0 where
     pub runs : (p q j : ℕ) → At C p (F.code j) q → Front W (ks ++ F.consts) → q + j ≤ length C → BRuns sense n F.need p q j res
 
-  dst-room : (dst : Dst) (n len : ℕ) → DstLow dst n → n ≤ len → d_need dst n ≤ len → d_reg dst n < len
-  dst-room Any n len low le le' = le'
-  dst-room (To d) n len low le le' = omega arith
+  dst-room : (dst : Option ℕ) (n len : ℕ) → DstLow dst n → n ≤ len → d_need dst n ≤ len → d_reg dst n < len
+  dst-room None n len low le le' = le'
+  dst-room (Some d) n len low le le' = omega arith
 
   -- a last word that writes the destination: what it asks for is the result
   pub op_runs :
-      (dst : Dst) (n m : ℕ) {p mid q : ℕ} {P : List Datum → Type 0} (i : Op) (res : Result) → DstLow dst n →
-      Runs C W ls b n m p mid mid Any P → At C mid (i ∷ []) q →
+      (dst : Option ℕ) (n m : ℕ) {p mid q : ℕ} {P : List Datum → Type 0} (i : Op) (res : Answer) → DstLow dst n →
+      Runs C W ls b n m p mid mid None P → At C mid (i ∷ []) q →
       ((K rs : List Datum) → Front K W → P rs → effect_of (value_at rs) (value_at K) i ≡ write (d_reg dst n) res) →
       VRuns dst n (max m (d_need dst n)) (d_reg dst n) p q res
   op_runs dst n m {mid} {q} i (is v) low r h s =
@@ -406,7 +404,7 @@ module _ (C : List ℕ) (W ls : List Datum) (b : ℕ) where
 
   -- a last word that branches: its test, and with the sense false the opposite
   pub leap-runs :
-      (sense : Bool) (n m k : ℕ) {p mid q : ℕ} {P : List Datum → Type 0} (i : Op) (res : Result) (t : Truth) → Runs C W ls b n m p mid mid Any P →
+      (sense : Bool) (n m k : ℕ) {p mid q : ℕ} {P : List Datum → Type 0} (i : Op) (res : Answer) (t : Truth) → Runs C W ls b n m p mid mid None P →
       At C mid (i ∷ []) q → q + k ≤ length C →
       ((K rs : List Datum) → Front K W → P rs → effect_of (value_at rs) (value_at K) i ≡ branch (pos k) res) → test res ≡ same_t sense t →
       BRuns sense n m p q k t
@@ -449,7 +447,7 @@ module _ (C : List ℕ) (W ls : List Datum) (b : ℕ) where
 
   -- a last word that jumps over the k words after it
   pub runs_jump :
-      {dst : Dst} {n m p mid : ℕ} {P : List Datum → Type 0} (k q : ℕ) → Runs C W ls b n m p mid mid dst P →
+      {dst : Option ℕ} {n m p mid : ℕ} {P : List Datum → Type 0} (k q : ℕ) → Runs C W ls b n m p mid mid dst P →
       Stands C mid (jmp_by k) → suc mid + k ≡ q → q ≤ length C → Runs C W ls b n m p q q dst P
   runs_jump {dst} {n} {m} {p} {mid} {P} k q r h e le =
       record {

@@ -1,4 +1,5 @@
 -- The steps of the generator: each gives what is written here, or is refused because less is lent than is needed.
+use Rattle.std.specs.Prelude.{Option, Some, None}
 use mathlib.Core.Path.{◌≡◌, refl, sym, ap, subst}
 use mathlib.Core.Bool.{Bool, true, false, cond}
 use mathlib.Core.List.{List, [], ◌∷◌, ◌++◌, append-nil}
@@ -13,8 +14,6 @@ use Rattle.insns.specs.declared.op.Op.{Op}
 use Rattle.insns.specs.Insns.{made_of}
 use Rattle.decode.specs.Patch.{Patching, patch_of, patch_all}
 use Rattle.value.specs.Value.{Datum}
-use Rattle.emit.specs.declared.state.Dst.{Dst}
-use Rattle.emit.specs.declared.state.Dst.TheVariants.{Any, To}
 use Rattle.emit.specs.State.{Res, done, fail, bind, State, alloc_d, dest_d, seek, fresh, slot_d, store_d, emit_d}
 use Rattle.emit.specs.Jump.{patched_d, patch_d, patches_d, leap_d, jump_d}
 use Rattle.emit.specs.Steps.{put_d}
@@ -28,7 +27,7 @@ use Rattle.claim.proofs.fragments.Open.{patched}
 
 pub data Met {A : Type 0} (W : ℕ → Type 0) (x : Res A) (a : A) (P : Type 0) : Type 0 where
   met : x ≡ done a → P → Met W x a P
-  refused : (e : ℕ) → x ≡ fail e → W e → Met W x a P
+  refused : (e : Fault) → x ≡ fail e → W e → Met W x a P
 
 pub met-bind :
     {A B P Q : Type 0} {W : ℕ → Type 0} (k : A → Res B) {x : Res A} {a : A} {c : B} → Met W x a P → (P → Met W (k a) c Q) → Met W (bind x k) c Q
@@ -42,7 +41,7 @@ pub met-then : {A P Q : Type 0} {W : ℕ → Type 0} {x : Res A} {a : A} → Met
 met-then (met e p) f = met e (f p)
 met-then (refused n e h) f = refused n e h
 
-met-cond : {A P : Type 0} {W : ℕ → Type 0} (t : Bool) (a : A) (e : ℕ) → (t ≡ false → W e) → (t ≡ true → P) → Met W (cond t (done a) (fail e)) a P
+met-cond : {A P : Type 0} {W : ℕ → Type 0} (t : Bool) (a : A) (e : Fault) → (t ≡ false → W e) → (t ≡ true → P) → Met W (cond t (done a) (fail e)) a P
 met-cond true a e h p = met refl (p refl)
 met-cond false a e h p = refused e refl (h refl)
 
@@ -57,7 +56,7 @@ pub state-eq :
 state-eq {cap} {slot_cap} a e g h l = λ i. (a, st cap slot_cap (e i) (g i) (h i) (l i))
 
 -- a register that can be named, and the free ones after it
-pub record Taken (dst : Dst) (n : ℕ) : Type 0 where
+pub record Taken (dst : Option ℕ) (n : ℕ) : Type 0 where
   pub low : d_reg dst n < max_registers
   pub top : d_next dst n ≤ max_registers
   pub next : d_next dst n ≤ suc n
@@ -72,15 +71,15 @@ module _ {need : Amounts} {places cap slot_cap : ℕ} where
   -- registers and slots
 
   pub dest-met :
-      (dst : Dst) (c : List ℕ) (ks : List Datum) (n f : ℕ) → n ≤ max_registers → DstLow dst max_registers → n < need.registers →
+      (dst : Option ℕ) (c : List ℕ) (ks : List Datum) (n f : ℕ) → n ≤ max_registers → DstLow dst max_registers → n < need.registers →
       Met (Lacking need places cap slot_cap) (dest_d dst (st cap slot_cap c ks n f)) (d_reg dst n, st cap slot_cap c ks (d_next dst n) (max f (d_need dst n))) (Taken dst n)
   unfolding dest_d alloc_d
-  dest-met Any c ks n f top low few =
+  dest-met None c ks n f top low few =
       met-eq (state-eq n refl refl (omega arith) (omega arith))
       (met-cond (ltb n max_registers) (n, st cap slot_cap c ks (n + 1) (max f (n + 1))) no_register
       (λ h. register (omega (arith, ltb-false n max_registers h)))
       (λ h. let l = ltb-true n max_registers h in record { low = l; top = omega arith; next = omega arith; reach = omega arith }))
-  dest-met (To d) c ks n f top low few =
+  dest-met (Some d) c ks n f top low few =
       met-eq (state-eq d refl refl refl (omega arith)) (met refl (record { low = low; top = top; next = omega arith; reach = omega arith }))
 
   slot-by :
@@ -112,7 +111,7 @@ module _ {need : Amounts} {places cap slot_cap : ℕ} where
       (λ w. word (omega (arith, ltb-false (length c) cap w))) (λ w. tt))
 
   pub put-met :
-      (i : ℕ → Op) (dst : Dst) (c : List ℕ) (ks : List Datum) (n f : ℕ) → n ≤ max_registers → DstLow dst max_registers →
+      (i : ℕ → Op) (dst : Option ℕ) (c : List ℕ) (ks : List Datum) (n f : ℕ) → n ≤ max_registers → DstLow dst max_registers →
       ((d : ℕ) → d < max_registers → Fits (i d)) → n < need.registers → length c < need.words →
       Met (Lacking need places cap slot_cap) (put_d i dst (st cap slot_cap c ks n f)) (d_reg dst n, st cap slot_cap (c ++ word_of (i (d_reg dst n)) ∷ []) ks (d_next dst n) (max f (d_need dst n))) (Taken dst n)
   unfolding put_d

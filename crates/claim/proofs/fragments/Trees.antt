@@ -1,4 +1,6 @@
 -- Every tree's fragment does what the tree's value says: peeking at literals, and the induction.
+use Rattle.std.specs.Prelude.{Option, Some, None}
+use Rattle.insns.specs.declared.op.Imm16.{Imm16}
 use mathlib.Core.Path.{◌≡◌, refl, sym, ap, ◌∙◌, subst}
 use mathlib.Core.Bool.{Bool, true, false, not, cond}
 use mathlib.Core.List.{List, [], ◌++◌}
@@ -15,7 +17,7 @@ use Rattle.int64.specs.declared.order.Cmp.{Cmp as ValueCmp}
 use Rattle.int64.specs.declared.order.Cmp.TheVariants as VC
 use Rattle.value.specs.Value.{Datum}
 use Rattle.value.specs.Value as Val
-use Rattle.value.specs.Answer.{Result, is, fault, is_number}
+use Rattle.value.specs.Answer.{Answer, is, fault, is_number}
 use Rattle.ops.specs.Not.{negate}
 use Rattle.ops.specs.Compare.{mixed, compare_numbers, compare_others, compare_of, same as same_datum}
 use Rattle.effect.specs.Effect as M
@@ -26,18 +28,8 @@ use Rattle.table.specs.Tree.{Tree, leaf, unary, binary, ternary, Leaf, nil, yep,
 use Rattle.eval.specs.Eval as E
 use Rattle.eval.specs.Apply as Apply
 use Rattle.eval.specs.Eval.{eval_of, leaf_of}
-use Rattle.emit.specs.declared.state.Dst.{Dst}
-use Rattle.emit.specs.declared.state.Dst.TheVariants.{Any, To}
 use Rattle.fold.specs.declared.Tail.{Tail}
 use Rattle.fold.specs.declared.Tail.TheVariants as Tail
-use Rattle.fold.specs.declared.Fold.{Fold}
-use Rattle.fold.specs.declared.Fold.TheVariants.{Into, General}
-use Rattle.fold.specs.declared.literal.Lit.{Lit}
-use Rattle.fold.specs.declared.literal.Lit.TheVariants.{Is, Not}
-use Rattle.fold.specs.declared.literal.Imm.{Imm}
-use Rattle.fold.specs.declared.literal.Imm.TheVariants.{Imm16, NoImm}
-use Rattle.fold.specs.declared.literal.Amount.{Amount}
-use Rattle.fold.specs.declared.literal.Amount.TheVariants.{By, NoShift}
 use Rattle.fold.specs.Literal.{fits16, fits_imm40, is_fixnum, lit_of, fixnum, const_of, imm_of, imm_lit, as_imm16, amount_of, amount_lit}
 use Rattle.fold.specs.Fold.{minus_one, shift_by, shifted_by, fold_of, tail_op, takes_shift}
 use Rattle.fold.proofs.Folding.{Folding, general, mask, shift-mask, shift-left, shift-right, plus, minus as less, times, folding}
@@ -51,7 +43,7 @@ use Rattle.claim.proofs.fragments.Laws.{mask_is, raw-nil, raw-true, raw-false, r
 
 -- ---- results and tests
 
-abbrev bool_r : Truth → Result
+abbrev bool_r : Truth → Answer
 bool_r (truth b) = is (Val.bool b)
 bool_r (wrong e) = fault e
 
@@ -64,7 +56,7 @@ cond-join (truth true) = refl
 cond-join (truth false) = refl
 cond-join (wrong e) = refl
 
-tern-join : (c a b : Result) → Sound.join_r false (test c) a b ≡ Apply.whether c a b
+tern-join : (c a b : Answer) → Sound.join_r false (test c) a b ≡ Apply.whether c a b
 unfolding Apply.whether
 tern-join (is Val.nil) a b = refl
 tern-join (is (Val.bool true)) a b = refl
@@ -73,7 +65,7 @@ tern-join (is (Val.int z)) a b = refl
 tern-join (is (Val.float p)) a b = refl
 tern-join (fault e) a b = refl
 
-tested : (b : Result) → bool_r (test b) ≡ Apply.test b
+tested : (b : Answer) → bool_r (test b) ≡ Apply.test b
 unfolding Apply.test Apply.whether
 tested (is Val.nil) = refl
 tested (is (Val.bool true)) = refl
@@ -82,7 +74,7 @@ tested (is (Val.int z)) = refl
 tested (is (Val.float p)) = refl
 tested (fault e) = refl
 
-and_is : (a b : Result) → bool_r (Sound.either_r false (test a) (test b)) ≡ E.binary_of and a b
+and_is : (a b : Answer) → bool_r (Sound.either_r false (test a) (test b)) ≡ E.binary_of and a b
 unfolding E.binary_of Apply.whether
 and_is (is Val.nil) b = refl
 and_is (is (Val.bool true)) b = tested b
@@ -91,7 +83,7 @@ and_is (is (Val.int z)) b = refl
 and_is (is (Val.float p)) b = refl
 and_is (fault e) b = refl
 
-or_is : (a b : Result) → bool_r (Sound.either_r true (test a) (test b)) ≡ E.binary_of or a b
+or_is : (a b : Answer) → bool_r (Sound.either_r true (test a) (test b)) ≡ E.binary_of or a b
 unfolding E.binary_of Apply.whether
 or_is (is Val.nil) b = refl
 or_is (is (Val.bool true)) b = refl
@@ -125,21 +117,21 @@ compare-bool c (Val.float p) (Val.float q) = refl
 
 -- ---- what an instruction of one register makes of what is in it
 
-abbrev tail_r : Tail → Result → Result
+abbrev tail_r : Tail → Answer → Answer
 tail_r Tail.Not r = M.inverted r
 tail_r (Tail.Imm o z) r = M.both (Forms.arith_kind o) r (M.literal z.n)
 tail_r (Tail.Shift o k) r = M.both (Forms.shift_kind o) r (M.literal (pos k))
 tail_r (Tail.Mask lo len) r = M.both 8 r (M.mask lo len)
 tail_r (Tail.ShiftMask k lo len) r = M.both 8 (M.both 12 r (M.literal (pos k))) (M.mask lo len)
 
-tail-asks : (tail : Tail) (reg slot : ℕ → Result) (d r : ℕ) → effect_of reg slot (tail_op tail d r) ≡ write d (tail_r tail (reg r))
+tail-asks : (tail : Tail) (reg slot : ℕ → Answer) (d r : ℕ) → effect_of reg slot (tail_op tail d r) ≡ write d (tail_r tail (reg r))
 tail-asks Tail.Not reg slot d r = refl
 tail-asks (Tail.Imm o z) reg slot d r = arith-form reg slot o d r z
 tail-asks (Tail.Shift o k) reg slot d r = shift-form reg slot o d r k
 tail-asks (Tail.Mask lo len) reg slot d r = refl
 tail-asks (Tail.ShiftMask k lo len) reg slot d r = refl
 
-tail-strict : (tail : Tail) (e : ℕ) → tail_r tail (fault e) ≡ fault e
+tail-strict : (tail : Tail) (e : Fault) → tail_r tail (fault e) ≡ fault e
 unfolding M.inverted M.both negate
 tail-strict Tail.Not e = refl
 tail-strict (Tail.Imm o z) e = refl
@@ -147,7 +139,7 @@ tail-strict (Tail.Shift o k) e = refl
 tail-strict (Tail.Mask lo len) e = refl
 tail-strict (Tail.ShiftMask k lo len) e = refl
 
-three-asks : (o : Arith) (reg slot : ℕ → Result) (d a b : ℕ) → effect_of reg slot (Op.Three (three_of o) d a b) ≡ write d (M.both (Forms.three_kind (three_of o)) (reg a) (reg b))
+three-asks : (o : Arith) (reg slot : ℕ → Answer) (d a b : ℕ) → effect_of reg slot (Op.Three (three_of o) d a b) ≡ write d (M.both (Forms.three_kind (three_of o)) (reg a) (reg b))
 three-asks bit_and reg slot d a b = refl
 three-asks bit_or reg slot d a b = refl
 three-asks bit_xor reg slot d a b = refl
@@ -162,9 +154,9 @@ three-asks mod' reg slot d a b = refl
 -- ---- peeking
 
 -- a literal is worth its number
-abbrev LitIs : Lit → Result → Type 0
-LitIs (Is z) e = e ≡ is (Val.int z)
-LitIs Not e = Unit {0}
+abbrev LitIs : Option ℤ → Answer → Type 0
+LitIs (Some z) e = e ≡ is (Val.int z)
+LitIs None e = Unit {0}
 
 lit_is : (t : Tree) (ls : List Datum) → LitIs (lit_of t) (eval_of ls t)
 unfolding lit_of eval_of leaf_of
@@ -178,67 +170,67 @@ lit_is (unary o a) ls = tt
 lit_is (binary o a b) ls = tt
 lit_is (ternary c a b) ls = tt
 
-fixnum-is : (l : Lit) (e : Result) → LitIs l e → LitIs (fixnum l) e
-fixnum-is Not e h = tt
-fixnum-is (Is z) e h = go (is_fixnum z)
+fixnum-is : (l : Option ℤ) (e : Answer) → LitIs l e → LitIs (fixnum l) e
+fixnum-is None e h = tt
+fixnum-is (Some z) e h = go (is_fixnum z)
   where
-    go : (t : Bool) → LitIs (cond t (Is z) Not) e
+    go : (t : Bool) → LitIs (cond t (Some z) None) e
     go true = h
     go false = tt
 
 const-is : (t : Tree) (ls : List Datum) → LitIs (const_of t) (eval_of ls t)
 const-is t ls = fixnum-is (lit_of t) (eval_of ls t) (lit_is t ls)
 
-abbrev ImmIs : Imm → Result → Type 0
-ImmIs (Imm16 z) e = e ≡ is (Val.int z.n)
-ImmIs NoImm e = Unit {0}
+abbrev ImmIs : Option Imm16 → Answer → Type 0
+ImmIs (Some z) e = e ≡ is (Val.int z.n)
+ImmIs None e = Unit {0}
 
-imm_of_lem : (z : ℤ) (e : Result) → e ≡ is (Val.int z) → ImmIs (imm_of z) e
+imm_of_lem : (z : ℤ) (e : Answer) → e ≡ is (Val.int z) → ImmIs (imm_of z) e
 imm_of_lem z e h = go (fits16 z)
   where
-    go : (t : Bool) → ImmIs (cond t (Imm16 (record { n = z })) NoImm) e
+    go : (t : Bool) → ImmIs (cond t (Some (record { n = z })) None) e
     go true = h
     go false = tt
 
-imm-lit : (l : Lit) (e : Result) → LitIs l e → ImmIs (imm_lit l) e
-imm-lit Not e h = tt
-imm-lit (Is z) e h = imm_of_lem z e h
+imm-lit : (l : Option ℤ) (e : Answer) → LitIs l e → ImmIs (imm_lit l) e
+imm-lit None e h = tt
+imm-lit (Some z) e h = imm_of_lem z e h
 
 imm-is : (t : Tree) (ls : List Datum) → ImmIs (as_imm16 t) (eval_of ls t)
 imm-is t ls = imm-lit (lit_of t) (eval_of ls t) (lit_is t ls)
 
 -- a shift's amount is a literal
-abbrev AmountIs : Amount → Result → Type 0
-AmountIs (By k) e = e ≡ is (Val.int (pos k))
-AmountIs NoShift e = Unit {0}
+abbrev AmountIs : Option ℕ → Answer → Type 0
+AmountIs (Some k) e = e ≡ is (Val.int (pos k))
+AmountIs None e = Unit {0}
 
-amount-of : (z : ℤ) (e : Result) → e ≡ is (Val.int z) → AmountIs (amount_of z) e
+amount-of : (z : ℤ) (e : Answer) → e ≡ is (Val.int z) → AmountIs (amount_of z) e
 amount-of (negsuc n) e h = tt
 amount-of (pos n) e h = go (ltb n 64)
   where
-    go : (t : Bool) → AmountIs (cond t (By n) NoShift) e
+    go : (t : Bool) → AmountIs (cond t (Some n) None) e
     go true = h
     go false = tt
 
-amount-lit : (l : Lit) (e : Result) → LitIs l e → AmountIs (amount_lit l) e
-amount-lit Not e h = tt
-amount-lit (Is z) e h = amount-of z e h
+amount-lit : (l : Option ℤ) (e : Answer) → LitIs l e → AmountIs (amount_lit l) e
+amount-lit None e h = tt
+amount-lit (Some z) e h = amount-of z e h
 
 -- the first child's value; a leaf's own
-unfoldable pub first_of : List Datum → Tree → Result
+unfoldable pub first_of : List Datum → Tree → Answer
 first_of ls (leaf l) = leaf_of ls l
 first_of ls (unary o a) = eval_of ls a
 first_of ls (binary o a b) = eval_of ls a
 first_of ls (ternary c a b) = eval_of ls c
 
 -- a shift by a literal is worth its left side, shifted
-abbrev ShiftIs : Amount → Result → Result → Type 0
-ShiftIs (By k) e e₁ = e ≡ Apply.both (E.arith_of rshift) e₁ (is (Val.int (pos k)))
-ShiftIs NoShift e e₁ = Unit {0}
+abbrev ShiftIs : Option ℕ → Answer → Answer → Type 0
+ShiftIs (Some k) e e₁ = e ≡ Apply.both (E.arith_of rshift) e₁ (is (Val.int (pos k)))
+ShiftIs None e e₁ = Unit {0}
 
-shift-by : (s : Amount) (ea eb : Result) → AmountIs s eb → ShiftIs s (Apply.both (E.arith_of rshift) ea eb) ea
-shift-by NoShift ea eb h = tt
-shift-by (By k) ea eb h = ap (Apply.both (E.arith_of rshift) ea) h
+shift-by : (s : Option ℕ) (ea eb : Answer) → AmountIs s eb → ShiftIs s (Apply.both (E.arith_of rshift) ea eb) ea
+shift-by None ea eb h = tt
+shift-by (Some k) ea eb h = ap (Apply.both (E.arith_of rshift) ea) h
 
 shifted-is : (t : Tree) (ls : List Datum) → ShiftIs (shifted_by t) (eval_of ls t) (first_of ls t)
 unfolding shifted_by shift_by eval_of first_of E.binary_of
@@ -262,32 +254,32 @@ shifted-is (ternary c a b) ls = tt
 
 -- ---- what a fold may be used for
 
-abbrev operand_r : Tail → Result → Result → Result
+abbrev operand_r : Tail → Answer → Answer → Answer
 operand_r tail a first = cond (takes_shift tail) first a
 
-abbrev FoldIs : Fold → Arith → Result → Result → Result → Type 0
-FoldIs (Into tail) o ea e₁ eb = Apply.both (E.arith_of o) ea eb ≡ tail_r tail (operand_r tail ea e₁)
-FoldIs General o ea e₁ eb = Unit {0}
+abbrev FoldIs : Option Tail → Arith → Answer → Answer → Answer → Type 0
+FoldIs (Some tail) o ea e₁ eb = Apply.both (E.arith_of o) ea eb ≡ tail_r tail (operand_r tail ea e₁)
+FoldIs None o ea e₁ eb = Unit {0}
 
 -- the operator with a literal, as the machine has it
-with-literal : (o : Arith) (z : ℤ) (ea eb : Result) → eb ≡ is (Val.int z) → Apply.both (E.arith_of o) ea eb ≡ M.both (Forms.three_kind (three_of o)) ea (M.literal z)
+with-literal : (o : Arith) (z : ℤ) (ea eb : Answer) → eb ≡ is (Val.int z) → Apply.both (E.arith_of o) ea eb ≡ M.both (Forms.three_kind (three_of o)) ea (M.literal z)
 with-literal o z ea eb h = ap (Apply.both (E.arith_of o) ea) h ∙ sym (three-is o ea (is (Val.int z)))
 
 -- by the ways in which a fold comes about
 folding-is :
-    {o : Arith} {s : Amount} {l : Lit} {f : Fold} (ea e₁ eb : Result) → ShiftIs s ea e₁ → LitIs l eb → Folding o s l f → FoldIs f o ea e₁ eb
+    {o : Arith} {s : Option ℕ} {l : Option ℤ} {f : Option Tail} (ea e₁ eb : Answer) → ShiftIs s ea e₁ → LitIs l eb → Folding o s l f → FoldIs f o ea e₁ eb
 folding-is ea e₁ eb hs h general = tt
 folding-is ea e₁ eb hs h (mask {z} {lo} {len} e) =
     with-literal bit_and z ea eb h ∙ ap (λ (y : ℤ). M.both 8 ea (M.literal y)) (sym (mask_is z lo len ((run-exactly z lo len).0 e)))
 folding-is ea e₁ eb hs h (shift-mask {k} {z} {lo} {len} e) =
     with-literal bit_and z ea eb h
     ∙ ap (λ (y : ℤ). M.both 8 ea (M.literal y)) (sym (mask_is z lo len ((run-exactly z lo len).0 e)))
-    ∙ ap (λ (x : Result). M.both 8 x (M.mask lo len)) (hs ∙ sym (three-is rshift e₁ (is (Val.int (pos k)))))
-folding-is ea e₁ eb hs h (shift-left {s} {z} {k} e) = with-literal lshift (pos k) ea eb (subst (λ (a : Amount). AmountIs a eb) e (amount-of z eb h))
-folding-is ea e₁ eb hs h (shift-right {s} {z} {k} e) = with-literal rshift (pos k) ea eb (subst (λ (a : Amount). AmountIs a eb) e (amount-of z eb h))
-folding-is ea e₁ eb hs h (plus {s} {z} {n} e) = with-literal add n.n ea eb (subst (λ (i : Imm). ImmIs i eb) e (imm_of_lem z eb h))
-folding-is ea e₁ eb hs h (less {s} {z} {n} e) = with-literal sub n.n ea eb (subst (λ (i : Imm). ImmIs i eb) e (imm_of_lem z eb h))
-folding-is ea e₁ eb hs h (times {s} {z} {n} e) = with-literal mul n.n ea eb (subst (λ (i : Imm). ImmIs i eb) e (imm_of_lem z eb h))
+    ∙ ap (λ (x : Answer). M.both 8 x (M.mask lo len)) (hs ∙ sym (three-is rshift e₁ (is (Val.int (pos k)))))
+folding-is ea e₁ eb hs h (shift-left {s} {z} {k} e) = with-literal lshift (pos k) ea eb (subst (λ (a : Option ℕ). AmountIs a eb) e (amount-of z eb h))
+folding-is ea e₁ eb hs h (shift-right {s} {z} {k} e) = with-literal rshift (pos k) ea eb (subst (λ (a : Option ℕ). AmountIs a eb) e (amount-of z eb h))
+folding-is ea e₁ eb hs h (plus {s} {z} {n} e) = with-literal add n.n ea eb (subst (λ (i : Option Imm16). ImmIs i eb) e (imm_of_lem z eb h))
+folding-is ea e₁ eb hs h (less {s} {z} {n} e) = with-literal sub n.n ea eb (subst (λ (i : Option Imm16). ImmIs i eb) e (imm_of_lem z eb h))
+folding-is ea e₁ eb hs h (times {s} {z} {n} e) = with-literal mul n.n ea eb (subst (λ (i : Option Imm16). ImmIs i eb) e (imm_of_lem z eb h))
 
 fold_is : (o : Arith) (a b : Tree) (ls : List Datum) → FoldIs (fold_of o a b) o (eval_of ls a) (first_of ls a) (eval_of ls b)
 fold_is o a b ls = folding-is (eval_of ls a) (first_of ls a) (eval_of ls b) (shifted-is a ls) (const-is b ls) (folding o (shifted_by a) (const_of b))
@@ -301,27 +293,27 @@ cmp-bool le x y = compare-bool VC.Le x y
 cmp-bool gt x y = compare-bool VC.Lt y x
 cmp-bool ge x y = compare-bool VC.Le y x
 
-compared-bool : (c : Cmp) (a b : Result) → bool_r (test (Apply.both (E.cmp_of c) a b)) ≡ Apply.both (E.cmp_of c) a b
+compared-bool : (c : Cmp) (a b : Answer) → bool_r (test (Apply.both (E.cmp_of c) a b)) ≡ Apply.both (E.cmp_of c) a b
 unfolding Apply.both Apply.on
 compared-bool c (is x) (is y) = cmp-bool c x y
 compared-bool c (is x) (fault e) = refl
 compared-bool c (fault e) b = refl
 
 -- a comparison hands its operands' faults on
-cmp-left : (c : Cmp) (e : ℕ) (b : Result) → test (Apply.both (E.cmp_of c) (fault e) b) ≡ wrong e
+cmp-left : (c : Cmp) (e : Fault) (b : Answer) → test (Apply.both (E.cmp_of c) (fault e) b) ≡ wrong e
 unfolding Apply.both
 cmp-left c e b = refl
 
-cmp-right : (c : Cmp) (x : Datum) (e : ℕ) → test (Apply.both (E.cmp_of c) (is x) (fault e)) ≡ wrong e
+cmp-right : (c : Cmp) (x : Datum) (e : Fault) → test (Apply.both (E.cmp_of c) (is x) (fault e)) ≡ wrong e
 unfolding Apply.both Apply.on
 cmp-right c x e = refl
 
-minus_is : (e : Result) → tail_r minus_one e ≡ Apply.on (E.unary_of minus) e
+minus_is : (e : Answer) → tail_r minus_one e ≡ Apply.on (E.unary_of minus) e
 unfolding M.both Apply.on E.unary_of
 minus_is (is x) = refl
 minus_is (fault n) = refl
 
-not_is : (e : Result) → M.inverted e ≡ Apply.on (E.unary_of not') e
+not_is : (e : Answer) → M.inverted e ≡ Apply.on (E.unary_of not') e
 unfolding M.inverted Apply.on E.unary_of negate
 not_is (is x) = refl
 not_is (fault n) = refl
@@ -329,46 +321,46 @@ not_is (fault n) = refl
 -- ---- nodes
 
 module _ (C : List ℕ) (W ls : List Datum) (b : ℕ) where
-  abbrev pub Values : ValueF → Result → Type 0
-  Values v e = (dst : Dst) (n : ℕ) (ks : List Datum) → b ≤ n → DstLow dst n → VSound C W ls b dst n ks (v dst n ks) e
+  abbrev pub Values : ValueF → Answer → Type 0
+  Values v e = (dst : Option ℕ) (n : ℕ) (ks : List Datum) → b ≤ n → DstLow dst n → VSound C W ls b dst n ks (v dst n ks) e
 
   abbrev pub Branches : BranchF → Truth → Type 0
   Branches br t = (sense : Bool) (n : ℕ) (ks : List Datum) → b ≤ n → BSound C W ls b sense n ks (br sense n ks) t
 
-  pub record TSound (F : Frag) (e e₁ : Result) : Type 0 where
+  pub record TSound (F : Frag) (e e₁ : Answer) : Type 0 where
     pub values : Values F.value e
     pub branches : Branches F.branch (test e)
     pub firsts : Values F.first e₁
 
-  value_as : {v : ValueF} {e f : Result} → e ≡ f → Values v e → Values v f
-  value_as {v} h s = subst (λ (x : Result). Values v x) h s
+  value_as : {v : ValueF} {e f : Answer} → e ≡ f → Values v e → Values v f
+  value_as {v} h s = subst (λ (x : Answer). Values v x) h s
 
   branch-as : {br : BranchF} {t u : Truth} → t ≡ u → Branches br t → Branches br u
   branch-as {br} h s = subst (λ (x : Truth). Branches br x) h s
 
   -- the words of one or two operands, then an instruction
-  tail-values : (tail : Tail) (v : ValueF) (e : Result) → Values v e → Values (tail_f tail v) (tail_r tail e)
+  tail-values : (tail : Tail) (v : ValueF) (e : Answer) → Values v e → Values (tail_f tail v) (tail_r tail e)
   tail-values tail v e s dst n ks up low =
-      let A = v Any n ks in
-      Sound.un-sound C W ls b n ks A e dst (λ d. tail_op tail d A.reg) (tail_r tail) low (s Any n ks up tt)
+      let A = v None n ks in
+      Sound.un-sound C W ls b n ks A e dst (λ d. tail_op tail d A.reg) (tail_r tail) low (s None n ks up tt)
       (λ reg slot d. tail-asks tail reg slot d A.reg) (tail-strict tail)
 
-  three-values : (o : Arith) (v w : ValueF) (ea eb : Result) → Values v ea → Values w eb → Values (binary_f v w (Op.Three (three_of o))) (Apply.both (E.arith_of o) ea eb)
+  three-values : (o : Arith) (v w : ValueF) (ea eb : Answer) → Values v ea → Values w eb → Values (binary_f v w (Op.Three (three_of o))) (Apply.both (E.arith_of o) ea eb)
   three-values o v w ea eb sa sb =
       value_as (three-is o ea eb)
       (λ dst n ks up low.
-      let A = v Any n ks in
-      let va = sa Any n ks up tt in
-      let B = w Any A.next (ks ++ A.consts) in
+      let A = v None n ks in
+      let va = sa None n ks up tt in
+      let B = w None A.next (ks ++ A.consts) in
       let k = Forms.three_kind (three_of o) in
       Sound.bin-sound C W ls b n ks A B ea eb dst (λ d. Op.Three (three_of o) d A.reg B.reg) (M.both k) up low va
-      (sb Any A.next (ks ++ A.consts) (omega (linear, va.more)) tt) (λ reg slot d. three-asks o reg slot d A.reg B.reg) (both_left k) (both_right k))
+      (sb None A.next (ks ++ A.consts) (omega (linear, va.more)) tt) (λ reg slot d. three-asks o reg slot d A.reg B.reg) (both_left k) (both_right k))
 
   arith-values :
-      (f : Fold) (o : Arith) (v w₁ w : ValueF) (ea e₁ eb : Result) → FoldIs f o ea e₁ eb → Values v ea → Values w₁ e₁ → Values w eb →
+      (f : Option Tail) (o : Arith) (v w₁ w : ValueF) (ea e₁ eb : Answer) → FoldIs f o ea e₁ eb → Values v ea → Values w₁ e₁ → Values w eb →
       Values (arith_f f (three_of o) v w₁ w) (Apply.both (E.arith_of o) ea eb)
-  arith-values General o v w₁ w ea e₁ eb h sa s₁ sb = three-values o v w ea eb sa sb
-  arith-values (Into tail) o v w₁ w ea e₁ eb h sa s₁ sb =
+  arith-values None o v w₁ w ea e₁ eb h sa s₁ sb = three-values o v w ea eb sa sb
+  arith-values (Some tail) o v w₁ w ea e₁ eb h sa s₁ sb =
       value_as (sym h) (tail-values tail (operand_f tail v w₁) (operand_r tail ea e₁) (operand (takes_shift tail)))
     where
       operand : (t : Bool) → Values (cond t w₁ v) (cond t e₁ ea)
@@ -377,35 +369,35 @@ module _ (C : List ℕ) (W ls : List Datum) (b : ℕ) where
 
   -- a register against a literal: t is the test
   imm-branches :
-      (c : Cmp) (z : Small) (v : ValueF) (e : Result) (t : Result → Truth) → ((x : Datum) → test (Apply.both (E.cmp_of c) (is x) (is (Val.int z.n))) ≡ t (is x)) →
-      ((n : ℕ) → t (fault n) ≡ wrong n) → Values v e → Branches (λ sense. unary_test_f v (imm_on (branch_of c sense) z)) (t e)
+      (c : Cmp) (z : Small) (v : ValueF) (e : Answer) (t : Answer → Truth) → ((x : Datum) → test (Apply.both (E.cmp_of c) (is x) (is (Val.int z.n))) ≡ t (is x)) →
+      ((n : Fault) → t (fault n) ≡ wrong n) → Values v e → Branches (λ sense. unary_test_f v (imm_on (branch_of c sense) z)) (t e)
   imm-branches c z v e t h strict s sense n ks up =
-      let A = v Any n ks in
-      Sound.un-leap C W ls b sense n ks A e (imm_on (branch_of c sense) z A.reg) (λ r. Forms.jump_test (branch_of c sense) r (M.literal z.n)) t (s Any n ks up tt)
+      let A = v None n ks in
+      Sound.un-leap C W ls b sense n ks A e (imm_on (branch_of c sense) z A.reg) (λ r. Forms.jump_test (branch_of c sense) r (M.literal z.n)) t (s None n ks up tt)
       (λ reg slot j. jump-imm-form reg slot (branch_of c sense) A.reg z (record { by = pos j })) (λ x. jump-is c sense (is x) (is (Val.int z.n)) ∙ ap (same_t sense) (h x)) strict
 
   pair-branches :
-      (c : Cmp) (v w : ValueF) (ea eb : Result) → Values v ea → Values w eb →
+      (c : Cmp) (v w : ValueF) (ea eb : Answer) → Values v ea → Values w eb →
       Branches (λ sense. binary_test_f v w (pair_on (branch_of c sense))) (test (Apply.both (E.cmp_of c) ea eb))
   pair-branches c v w ea eb sa sb sense n ks up =
-      let A = v Any n ks in
-      let va = sa Any n ks up tt in
-      let B = w Any A.next (ks ++ A.consts) in
+      let A = v None n ks in
+      let va = sa None n ks up tt in
+      let B = w None A.next (ks ++ A.consts) in
       Sound.bin-leap C W ls b sense n ks A B ea eb (pair_on (branch_of c sense) A.reg B.reg) (Forms.jump_test (branch_of c sense))
-      (λ x y. test (Apply.both (E.cmp_of c) x y)) up va (sb Any A.next (ks ++ A.consts) (omega (linear, va.more)) tt)
+      (λ x y. test (Apply.both (E.cmp_of c) x y)) up va (sb None A.next (ks ++ A.consts) (omega (linear, va.more)) tt)
       (λ reg slot j. jump-form reg slot (branch_of c sense) A.reg B.reg (record { by = pos j })) (λ x y. jump-is c sense (is x) (is y)) (cmp-left c) (cmp-right c)
 
   compare-branches :
-      (c : Cmp) (l r : Imm) (v w : ValueF) (ea eb : Result) → ImmIs l ea → ImmIs r eb → Values v ea → Values w eb →
+      (c : Cmp) (l r : Option Imm16) (v w : ValueF) (ea eb : Answer) → ImmIs l ea → ImmIs r eb → Values v ea → Values w eb →
       Branches (compare_f c l r v w) (test (Apply.both (E.cmp_of c) ea eb))
-  compare-branches c l (Imm16 z) v w ea eb hl hr sa sb sense n ks up =
-      subst (λ (e : Result). BSound C W ls b sense n ks (compare_f c l (Imm16 z) v w sense n ks) (test (Apply.both (E.cmp_of c) ea e))) (sym hr)
+  compare-branches c l (Some z) v w ea eb hl hr sa sb sense n ks up =
+      subst (λ (e : Answer). BSound C W ls b sense n ks (compare_f c l (Some z) v w sense n ks) (test (Apply.both (E.cmp_of c) ea e))) (sym hr)
       (imm-branches c z v ea (λ x. test (Apply.both (E.cmp_of c) x (is (Val.int z.n)))) (λ x. refl) (λ m. cmp-left c m (is (Val.int z.n))) sa sense n ks up)
-  compare-branches c (Imm16 z) NoImm v w ea eb hl hr sa sb sense n ks up =
-      subst (λ (e : Result). BSound C W ls b sense n ks (compare_f c (Imm16 z) NoImm v w sense n ks) (test (Apply.both (E.cmp_of c) e eb))) (sym hl)
+  compare-branches c (Some z) None v w ea eb hl hr sa sb sense n ks up =
+      subst (λ (e : Answer). BSound C W ls b sense n ks (compare_f c (Some z) None v w sense n ks) (test (Apply.both (E.cmp_of c) e eb))) (sym hl)
       (imm-branches (mirror c) z w eb (λ x. test (Apply.both (E.cmp_of c) (is (Val.int z.n)) x)) (λ x. ap test (mirror-is c z.n (is x))) (cmp-right c (Val.int z.n)) sb sense n ks
       up)
-  compare-branches c NoImm NoImm v w ea eb hl hr sa sb sense n ks up = pair-branches c v w ea eb sa sb sense n ks up
+  compare-branches c None None v w ea eb hl hr sa sb sense n ks up = pair-branches c v w ea eb sa sb sense n ks up
 
   load-values : (z : Imm40) (v : Datum) → M.raw_of z.raw ≡ is v → Values (load_f z) (is v)
   load-values z v h dst n ks up low = Sound.load-sound C W ls b z v dst n ks h low
@@ -418,12 +410,12 @@ module _ (C : List ℕ) (W ls : List Datum) (b : ℕ) where
       let up' : b ≤ m = omega (linear, Sound.d-more dst n) in
       let ks' = ks ++ (br true m ks).consts in
       rw (← cond-join t)
-      (Sound.join-sound C W ls b true dst n ks (br true m ks) (load_f raw_false (To d) m ks) (load_f raw_true (To d) m ks) t (is (Val.bool false))
-      (is (Val.bool true)) up low (s true m ks up') (load-values raw_false (Val.bool false) raw-false (To d) m ks' up' low')
-      (load-values raw_true (Val.bool true) raw-true (To d) m (ks' ++ []) up' low') refl refl)
+      (Sound.join-sound C W ls b true dst n ks (br true m ks) (load_f raw_false (Some d) m ks) (load_f raw_true (Some d) m ks) t (is (Val.bool false))
+      (is (Val.bool true)) up low (s true m ks up') (load-values raw_false (Val.bool false) raw-false (Some d) m ks' up' low')
+      (load-values raw_true (Val.bool true) raw-true (Some d) m (ks' ++ []) up' low') refl refl)
 
   tern-values :
-      (br : BranchF) (v w : ValueF) (ec ea eb : Result) → Branches br (test ec) → Values v ea → Values w eb → Values (tern_f br v w) (Apply.whether ec ea eb)
+      (br : BranchF) (v w : ValueF) (ec ea eb : Answer) → Branches br (test ec) → Values v ea → Values w eb → Values (tern_f br v w) (Apply.whether ec ea eb)
   tern-values br v w ec ea eb sc sa sb dst n ks up low =
       let d = d_reg dst n in
       let m = d_next dst n in
@@ -431,12 +423,12 @@ module _ (C : List ℕ) (W ls : List Datum) (b : ℕ) where
       let low' = Sound.d-low dst n low in
       let X = br false m ks in
       let ks' = ks ++ X.consts in
-      let A = into_f (v (To d) m ks') d m in
+      let A = into_f (v (Some d) m ks') d m in
       let ks'' = ks' ++ A.consts in
       rw (← tern-join ec ea eb)
-      (Sound.join-sound C W ls b false dst n ks X A (into_f (w (To d) m ks'') d m) (test ec) ea eb up low (sc false m ks up')
-      (Sound.into-sound C W ls b d m ks' (v (To d) m ks') ea low' (sa (To d) m ks' up' low'))
-      (Sound.into-sound C W ls b d m ks'' (w (To d) m ks'') eb low' (sb (To d) m ks'' up' low')) refl refl)
+      (Sound.join-sound C W ls b false dst n ks X A (into_f (w (Some d) m ks'') d m) (test ec) ea eb up low (sc false m ks up')
+      (Sound.into-sound C W ls b d m ks' (v (Some d) m ks') ea low' (sa (Some d) m ks' up' low'))
+      (Sound.into-sound C W ls b d m ks'' (w (Some d) m ks'') eb low' (sb (Some d) m ks'' up' low')) refl refl)
 
   int-values : (t : Bool) (z : ℤ) → fits_imm40 z ≡ t → Values (int_f t z) (is (Val.int z))
   int-values true z h = load-values (raw_int z) (Val.int z) (raw-int z h)
@@ -458,23 +450,23 @@ module _ (C : List ℕ) (W ls : List Datum) (b : ℕ) where
 
   -- ---- the induction
 
-  plain-sound : (v f : ValueF) (e e₁ : Result) → Values v e → Values f e₁ → TSound (plain_f v f) e e₁
+  plain-sound : (v f : ValueF) (e e₁ : Answer) → Values v e → Values f e₁ → TSound (plain_f v f) e e₁
   plain-sound v f e e₁ s s₁ =
       record {
         values = s;
         branches =
             λ sense n ks up.
-            let A = v Any n ks in
-            Sound.un-leap C W ls b sense n ks A e (test_on sense A.reg) (Forms.if_test (cond sense Sense.Yes Sense.No)) test (s Any n ks up tt)
+            let A = v None n ks in
+            Sound.un-leap C W ls b sense n ks A e (test_on sense A.reg) (Forms.if_test (cond sense Sense.Yes Sense.No)) test (s None n ks up tt)
             (λ reg slot j. if-form reg slot (cond sense Sense.Yes Sense.No) A.reg (record { by = pos j })) (λ x. sense-is sense (is x)) (λ m. refl);
         firsts = s₁;
       }
 
-  condition-sound : (br : BranchF) (f : ValueF) (t : Truth) (e e₁ : Result) → bool_r t ≡ e → Branches br t → Values f e₁ → TSound (condition_f br f) e e₁
+  condition-sound : (br : BranchF) (f : ValueF) (t : Truth) (e e₁ : Answer) → bool_r t ≡ e → Branches br t → Values f e₁ → TSound (condition_f br f) e e₁
   condition-sound br f t e e₁ h s s₁ =
       record { values = value_as h (cond-values br t s); branches = branch-as (sym (test-bool t) ∙ ap test h) s; firsts = s₁ }
 
-  unary-sound : (o : Unary) (F : Frag) (e e₁ : Result) → TSound F e e₁ → TSound (unary_n o F) (Apply.on (E.unary_of o) e) e
+  unary-sound : (o : Unary) (F : Frag) (e e₁ : Answer) → TSound F e e₁ → TSound (unary_n o F) (Apply.on (E.unary_of o) e) e
   unary-sound minus F e e₁ s =
       plain-sound (tail_f minus_one F.value) F.value (Apply.on (E.unary_of minus) e) e (value_as (minus_is e) (tail-values minus_one F.value e s.values))
       s.values

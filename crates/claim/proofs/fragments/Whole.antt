@@ -1,4 +1,5 @@
 -- A path of the machine is its run, so that a sound fragment, alone among the words, runs to the tree's value or stops with its fault.
+use Rattle.std.specs.Prelude.{Option, None}
 use mathlib.Core.Path.{◌≡◌, refl, sym, ap, ◌∙◌, subst, subst₂}
 use mathlib.Core.List.{List, [], ◌∷◌, ◌++◌, append_assoc}
 use Prim.Native.Nat.{ℕ, zero, suc, ◌+◌, ◌-◌, ◌≤◌, ◌<◌}
@@ -10,13 +11,11 @@ use borrow.Author.Tests.{lt-ltb, le-ltb}
 use Rattle.insns.specs.declared.op.Op.{Op}
 use Rattle.decode.specs.Decode.{decode_of}
 use Rattle.value.specs.Value.{Datum}
-use Rattle.value.specs.Answer.{Result, is, fault}
+use Rattle.value.specs.Answer.{Answer, is, fault}
 use Rattle.machine.specs.Step.{go, put, word_effect}
 use Rattle.machine.specs.Run.{ran}
 use Rattle.machine.specs.Datums.{value_at, next_of, end, values_from}
 use Rattle.machine.specs.declared.run.Ran.{Ran}
-use Rattle.emit.specs.declared.state.Dst.{Dst}
-use Rattle.emit.specs.declared.state.Dst.TheVariants.{Any}
 use Rattle.claim.proofs.fragments.Frag.{Vf}
 use Rattle.claim.proofs.fragments.Fits.{word, words_of, reads, AllFit}
 use Rattle.claim.proofs.fragments.Runs.{Stands, At, Path, rest, walk, store, step, Stops, Keep, Good, VRuns}
@@ -89,17 +88,17 @@ run-split C K {n} {q} {budget} {rs} {rs'} w le =
 -- ---- a sound fragment, alone
 
 -- what a run reports
-abbrev pub Told : Result → ℕ → Ran → Type 0
+abbrev pub Told : Answer → ℕ → Ran → Type 0
 Told (is v) len r = (r.number ≡ 0) × (r.position ≡ len) × (r.steps ≤ len)
 Told (fault e) len r = (r.number ≡ e) × (r.steps < len)
 
 -- and what it leaves
-abbrev pub Left : Dst → ℕ → Vf → List Datum → List Datum → Result → Type 0
+abbrev pub Left : Option ℕ → ℕ → Vf → List Datum → List Datum → Answer → Type 0
 Left dst n F rs rs' (is v) = Keep dst n F.need rs rs' × (value_at rs' F.reg ≡ is v)
-Left dst n F rs rs' (fault e) = Keep Any n F.need rs rs'
+Left dst n F rs rs' (fault e) = Keep None n F.need rs rs'
 
 -- the report is the same for all registers and slots with these locals and constants
-pub record Fixed (dst : Dst) (b n : ℕ) (F : Vf) (ls : List Datum) (res : Result) : Type 0 where
+pub record Fixed (dst : Option ℕ) (b n : ℕ) (F : Vf) (ls : List Datum) (res : Answer) : Type 0 where
   pub report : Ran
   pub told : Told res (length F.code) report
   pub all :
@@ -107,7 +106,7 @@ pub record Fixed (dst : Dst) (b n : ℕ) (F : Vf) (ls : List Datum) (res : Resul
       (rs' : List Datum) × (values_from (words_of F.code) K budget 0 0 rs ≡ end report rs') × Left dst n F rs rs' res
 
 pub fixed :
-    (dst : Dst) (b n : ℕ) (F : Vf) (ls : List Datum) (res : Result) →
+    (dst : Option ℕ) (b n : ℕ) (F : Vf) (ls : List Datum) (res : Answer) →
     VRuns (words_of F.code) F.consts ls b dst n F.need F.reg 0 (length F.code) res → Fixed dst b n F ls res
 fixed dst b n F ls (is v) r =
     let C = words_of F.code in

@@ -1,4 +1,5 @@
 -- Zeros after a place, and what is left behind.
+use Rattle.std.specs.Prelude.{Ok}
 use mathlib.Core.Path.{◌≡◌, refl, sym, ap, ◌∙◌}
 use mathlib.Core.List.{List, ◌++◌, append_assoc, append-nil}
 use Prim.Native.Nat.{ℕ, ◌+◌, ◌-◌, ◌<◌, ◌≤◌}
@@ -6,7 +7,6 @@ use native.Mathlib.Numerals.{add-one}
 use native.Mathlib.Omega.{arith}
 use lib.ListN.{length, take, set, replicate, length-set, replicate-append-replicate}
 use lib.Seq.{take-suc-set, take_all, length-take-le}
-use Rattle.compile.specs.declared.buffers.Compiled.TheVariants.{Done}
 use Rattle.emit.specs.declared.state.St.{St}
 use Rattle.emit.specs.State.{done}
 use Rattle.emit.specs.Read.{bufs, st_of, Fit}
@@ -63,7 +63,7 @@ padded-is n old {now} {xs} {m} z e h l =
     z ∙ ap (λ (q : List ℕ). q ++ replicate {A = ℕ} (length old - n) 0) e ∙ ap (λ (q : ℕ). xs ++ replicate {A = ℕ} (q - n) 0) l ∙ ap (λ (q : ℕ). xs ++ replicate {A = ℕ} (m - q) 0) (sym k)
 
 pub finished : {c k p : List ℕ} {s : St} → Fit (bufs c k p) s → {c2 k2 p2 : List ℕ} → c2 ≡ zeroed s.count c → k2 ≡ zeroed s.slots k → p2 ≡ zeroed s.slots p → (r : ℕ) →
-    Compiles (Done s.count s.slots r s.frame) (done (r, st_of (bufs c k p) s)) c2 k2 p2 (length c) (length k) (length p)
+    Compiles (Ok (record { words = s.count; slots = s.slots; register = r; frame = s.frame })) (done (r, st_of (bufs c k p) s)) c2 k2 p2 (length c) (length k) (length p)
 finished {c} {k} {p} {s} fit cz kz pz r =
     let n : length (take s.count c) ≡ s.count = length-take-le s.count c fit.words in
     let h = fit.consts in

@@ -1,4 +1,7 @@
 -- Displacements, and words patched: one of a list, and one after the other.
+use Rattle.std.specs.Prelude.{Option, Some, None, Result, Ok, Err}
+use Rattle.faults.specs.declared.Fault.{Fault}
+use Rattle.insns.specs.declared.op.Disp.{Disp}
 use mathlib.Core.Path.{◌≡◌, refl, sym, ap, ◌∙◌}
 use mathlib.Core.Bool.{Bool, true, false, not, cond}
 use mathlib.Core.List.{List, [], ◌∷◌}
@@ -18,9 +21,6 @@ use mir.ValLaws.{to_z_pos}
 use Rattle.insns.proofs.bits.Sign.{back}
 use Rattle.decode.specs.Patch.{difference, aim_word, Patching, put_aimed, patch_of, patch_all, is_done}
 use Rattle.decode.specs.Aim.{reach_of}
-use Rattle.decode.specs.declared.patch.Reach.{Reach}
-use Rattle.decode.specs.declared.patch.Aimed.{Aimed}
-use Rattle.decode.specs.declared.patch.Patched.{Patched}
 
 -- ---- displacements
 
@@ -53,18 +53,18 @@ diff at t a l =
     let q : to_z w64 (at + 1) ≡ pos (suc at) = ap (to_z w64) (add-one at) ∙ to_z_pos w64 (suc at) k in
     ap (λ (x : ℤ). x -ℤ to_z w64 (at + 1)) p ∙ ap (λ (y : ℤ). pos t -ℤ y) q
 
-abbrev near : ℕ → ℕ → Reach
-near at t = Reach.By (record { by = difference at t })
+abbrev near : ℕ → ℕ → Option Disp
+near at t = Some (record { by = difference at t })
 
-far-off : (at t : ℕ) → 2147483648 ≤ mag (difference at t) → Reach.Far ≡ reach_of at t
+far-off : (at t : ℕ) → 2147483648 ≤ mag (difference at t) → None ≡ reach_of at t
 unfolding reach_of
-far-off at t h = ap (λ (b : Bool). cond b (near at t) Reach.Far) (sym (le-ltb (mag (difference at t)) 2147483648 h))
+far-off at t h = ap (λ (b : Bool). cond b (near at t) None) (sym (le-ltb (mag (difference at t)) 2147483648 h))
 
 pub in_reach : (at t : ℕ) → mag (difference at t) < 2147483648 → near at t ≡ reach_of at t
 unfolding reach_of
-in_reach at t h = ap (λ (b : Bool). cond b (near at t) Reach.Far) (sym (lt-ltb (mag (difference at t)) 2147483648 h))
+in_reach at t h = ap (λ (b : Bool). cond b (near at t) None) (sym (lt-ltb (mag (difference at t)) 2147483648 h))
 
-pub past-62 : (at t : ℕ) → at < 2305843009213693952 → 4611686018427387904 ≤ t → Reach.Far ≡ reach_of at t
+pub past-62 : (at t : ℕ) → at < 2305843009213693952 → 4611686018427387904 ≤ t → None ≡ reach_of at t
 past-62 at t a l =
     let h : at < t = omega arith in
     let m : mag (difference at t) ≡ t - suc at = ap mag (forward at t h) in
@@ -79,24 +79,24 @@ module _ (at t : ℕ) (a : at < 2305843009213693952) (l : t < 461168601842738790
     mag_is : m ≡ mag (difference at t)
     mag_is = e ∙ ap mag read_back
 
-    pub near_by : m < 2147483648 → Reach.By (record { by = to_z w32 (of_z w32 (to_z w64 (of_z w64 (to_z w64 t -ℤ to_z w64 (at + 1))))) }) ≡ reach_of at t
+    pub near_by : m < 2147483648 → Some (record { by = to_z w32 (of_z w32 (to_z w64 (of_z w64 (to_z w64 t -ℤ to_z w64 (at + 1))))) }) ≡ reach_of at t
     near_by h =
         let k : mag (difference at t) < 2147483648 = omega (arith, mag_is) in
         let z : to_z w32 (of_z w32 (to_z w64 (of_z w64 (to_z w64 t -ℤ to_z w64 (at + 1))))) ≡ difference at t = ap (λ (y : ℤ). to_z w32 (of_z w32 y)) read_back ∙ back w32 (difference at t) k in
-        ap (λ (y : ℤ). Reach.By (record { by = y })) z ∙ in_reach at t k
+        ap (λ (y : ℤ). Some (record { by = y })) z ∙ in_reach at t k
 
-    pub far-by : 2147483648 ≤ m → Reach.Far ≡ reach_of at t
+    pub far-by : 2147483648 ≤ m → None ≡ reach_of at t
     far-by h = far-off at t (omega (arith, mag_is))
 
 -- ---- a word of a list is patched
 
-pub no_word : (ws : List ℕ) (at t : ℕ) → length ws ≤ at → record { answer = Patched.NoWord; words = ws } ≡ patch_of ws at t
+pub no_word : (ws : List ℕ) (at t : ℕ) → length ws ≤ at → record { answer = (Err no_word); words = ws } ≡ patch_of ws at t
 unfolding patch_of
-no_word ws at t h = ap (λ (b : Bool). cond b (put_aimed (aim_word (get_or ws at 0) at t) ws at) (record { answer = Patched.NoWord; words = ws })) (sym (le-ltb at (length ws) h))
+no_word ws at t h = ap (λ (b : Bool). cond b (put_aimed (aim_word (get_or ws at 0) at t) ws at) (record { answer = (Err no_word); words = ws })) (sym (le-ltb at (length ws) h))
 
-pub a_word : (ws : List ℕ) (at t : ℕ) {a b : Aimed} → at < length ws → a ≡ aim_word (get_or ws at 0) at t → a ≡ b → put_aimed b ws at ≡ patch_of ws at t
+pub a_word : (ws : List ℕ) (at t : ℕ) {a b : Result ℕ Fault} → at < length ws → a ≡ aim_word (get_or ws at 0) at t → a ≡ b → put_aimed b ws at ≡ patch_of ws at t
 unfolding patch_of
-a_word ws at t {a} {b} h q k = ap (λ (x : Aimed). put_aimed x ws at) (sym k ∙ q) ∙ ap (λ (x : Bool). cond x (put_aimed (aim_word (get_or ws at 0) at t) ws at) (record { answer = Patched.NoWord; words = ws })) (sym (lt-ltb at (length ws) h))
+a_word ws at t {a} {b} h q k = ap (λ (x : Result ℕ Fault). put_aimed x ws at) (sym k ∙ q) ∙ ap (λ (x : Bool). cond x (put_aimed (aim_word (get_or ws at 0) at t) ws at) (record { answer = (Err no_word); words = ws })) (sym (lt-ltb at (length ws) h))
 
 -- an answer and the words that are left, from the one equation
 pub both : {p q : Patching} → p ≡ q → (p.answer ≡ q.answer) × (p.words ≡ q.words)
@@ -105,7 +105,7 @@ both e = (ap (λ (x : Patching). x.answer) e, ap (λ (x : Patching). x.words) e)
 -- ---- a list of branches is patched
 
 -- the branch at place i was patched, with the answer r and the words ws': what is then left to do gives what was left to do before
-module _ (ws js : List ℕ) (i t : ℕ) {r : Patched} {ws' : List ℕ} {b : Bool} (h : i < length js) (answered : r ≡ (patch_of ws (get_or js i 0) t).answer)
+module _ (ws js : List ℕ) (i t : ℕ) {r : Result (Unit {0}) Fault} {ws' : List ℕ} {b : Bool} (h : i < length js) (answered : r ≡ (patch_of ws (get_or js i 0) t).answer)
     (left : ws' ≡ (patch_of ws (get_or js i 0) t).words) (tested : b ≡ is_done r) where
   pub next : not b ≡ false → patch_all ws' (drop (i + 1) js) t ≡ patch_all ws (drop i js) t
   unfolding patch_all
@@ -123,6 +123,6 @@ module _ (ws js : List ℕ) (i t : ℕ) {r : Patched} {ws' : List ℕ} {b : Bool
       failed true q = sym q
       failed false q = refl
 
-pub end : (ws js : List ℕ) (i t : ℕ) → length js ≤ i → record { answer = Patched.Done; words = ws } ≡ patch_all ws (drop i js) t
+pub end : (ws js : List ℕ) (i t : ℕ) → length js ≤ i → record { answer = (Ok tt); words = ws } ≡ patch_all ws (drop i js) t
 unfolding patch_all
 end ws js i t h = rw (drop_of_length-le js h)

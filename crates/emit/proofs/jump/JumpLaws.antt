@@ -1,4 +1,7 @@
 -- What branches, their list and patching have to show, at a state that is read off the code's buffers.
+use Rattle.std.specs.Prelude.{Option, Result, Ok, Err}
+use Rattle.faults.specs.declared.Fault.{Fault}
+use Rattle.insns.specs.declared.Insn.{Insn}
 use mathlib.Core.Path.{◌≡◌, refl, sym, ap, ◌∙◌}
 use mathlib.Core.Bool.{Bool, true, false, cond}
 use mathlib.Core.List.{List, [], ◌∷◌, ◌++◌}
@@ -11,16 +14,10 @@ use lib.ListN.{length, take, drop, set, get_or, replicate, length-set, length-dr
 use lib.Seq.{length-take-le, take-suc, take-suc-set, take-add, take_at, get_or-drop, drop-cons, drop-set-lt, drop-drop}
 use borrow.Author.Tests.{lt-ltb, eq-eqb, ne_eqb}
 use Rattle.faults.specs.Numbers.{no_room}
-use Rattle.insns.specs.declared.Made.{Made}
 use Rattle.insns.specs.declared.op.Op.{Op}
 use Rattle.insns.specs.Insns.{made_of}
-use Rattle.decode.specs.declared.patch.Patched.{Patched}
 use Rattle.decode.specs.Patch.{Patching, patch_of, patch_all, patched_number}
 use Rattle.emit.specs.declared.state.St.{St}
-use Rattle.emit.specs.declared.state.Ans.{Ans}
-use Rattle.emit.specs.declared.state.Ans.TheVariants.{Got, No}
-use Rattle.emit.specs.declared.jump.Jumps.{Jumps}
-use Rattle.emit.specs.declared.jump.Jumps.TheVariants as J
 use Rattle.fold.specs.declared.How.{How}
 use Rattle.emit.specs.State.{Res, done, fail, bind, State, here, with_words, store_d, emit_d}
 use Rattle.emit.specs.Jump.{patched_d, patch_d, patches_d, leap_d}
@@ -32,17 +29,17 @@ use Rattle.emit.proofs.ConstLaws.{zeros-held}
 use Rattle.emit.proofs.Laws.{go, stop, kept, says-by, passed, came, fit_free}
 
 -- a refusal is the definition's
-fails : {b : Bufs} {x : Ans} {m : Res (ℕ × State)} {B : Type 0} (k : ℕ × State → Res B) {n : ℕ} → x ≡ No n → Says b x m → fail n ≡ bind m k
+fails : {b : Bufs} {x : Result (ℕ × St) Fault} {m : Res (ℕ × State)} {B : Type 0} (k : ℕ × State → Res B) {n : Fault} → x ≡ Err n → Says b x m → fail n ≡ bind m k
 fails k e h = rw (← h.is, e)
 
 -- ---- a branch
 
-pub jump-none : (c js : List ℕ) (st : St) (made : Made) → length js ≡ 0 → Jumping c c js st (J.No no_room) (leap_d made (length js))
+pub jump-none : (c js : List ℕ) (st : St) (made : Option Insn) → length js ≡ 0 → Jumping c c js st (Err no_room) (leap_d made (length js))
 unfolding leap_d
 jump-none c js st made h ks ps fit = record { is = rw h; fit = tt }
 
-module _ {c c' : List ℕ} (js : List ℕ) {st : St} (made : Made) {x : Ans} (some : length js ≡ 0 → ⊥) (h : Steps c c' st x (store_d made 0)) where
-  pub jump-made : {d : ℕ} {s : St} → x ≡ Got d s → Jumping c c' (set js 0 st.count) st (J.Are 1 s) (leap_d made (length js))
+module _ {c c' : List ℕ} (js : List ℕ) {st : St} (made : Option Insn) {x : Result (ℕ × St) Fault} (some : length js ≡ 0 → ⊥) (h : Steps c c' st x (store_d made 0)) where
+  pub jump-made : {d : ℕ} {s : St} → x ≡ Ok (d, s) → Jumping c c' (set js 0 st.count) st (Ok (1, s)) (leap_d made (length js))
   unfolding leap_d
   jump-made e ks ps fit =
       let q = h ks ps fit in
@@ -53,38 +50,38 @@ module _ {c c' : List ℕ} (js : List ℕ) {st : St} (made : Made) {x : Ans} (so
         fit = (kept e q, simp length-set p);
       }
 
-  pub jump-refused : {n : ℕ} → x ≡ No n → Jumping c c' js st (J.No n) (leap_d made (length js))
+  pub jump-refused : {n : Fault} → x ≡ Err n → Jumping c c' js st (Err n) (leap_d made (length js))
   unfolding leap_d
   jump-refused e ks ps fit =
       let q = h ks ps fit in
       let p : 0 < length js = pos_of_ne-zero some in
       record { is = rw (lt-ltb 0 (length js) p) (fails (λ y. done (length (take st.count c) ∷ [], y.1)) e q); fit = tt }
 
-pub leap-stop : (c js : List ℕ) {x : Ans} {n : ℕ} (f : ℕ × State → Res (List ℕ × State)) → x ≡ No n → AfterJumping c c js x (J.No n) f
+pub leap-stop : (c js : List ℕ) {x : Result (ℕ × St) Fault} {n : Fault} (f : ℕ × State → Res (List ℕ × State)) → x ≡ Err n → AfterJumping c c js x (Err n) f
 leap-stop c js f e ks ps fit = record { is = rw e; fit = tt }
 
-pub leap-go : {c c' js : List ℕ} {x : Ans} {a : ℕ} {s z : St} {mark : ℕ} {made : Made} {r : Jumps} (op : ℕ → Op) (room : ℕ) → x ≡ Got a s → z ≡ freed s mark → made ≡ made_of (op a)
+pub leap-go : {c c' js : List ℕ} {x : Result (ℕ × St) Fault} {a : ℕ} {s z : St} {mark : ℕ} {made : Option Insn} {r : Result (ℕ × St) Fault} (op : ℕ → Op) (room : ℕ) → x ≡ Ok (a, s) → z ≡ freed s mark → made ≡ made_of (op a)
     → Jumping c c' js z r (leap_d made room) → AfterJumping c c' js x r (leap_to op room mark)
 unfolding leap_to
 leap-go op room got free m h ks ps fit =
     let q = h ks ps (fit_free free (rw got at fit)) in
     record { is = q.is ∙ rw (got, m, free); fit = q.fit }
 
-pub how-arm : {how arm : How} (a : ℕ) {r : Made} → how ≡ arm → r ≡ made_of (how_op arm a) → r ≡ made_of (how_op how a)
+pub how-arm : {how arm : How} (a : ℕ) {r : Option Insn} → how ≡ arm → r ≡ made_of (how_op arm a) → r ≡ made_of (how_op how a)
 how-arm a e h = rw e h
 
 pub ruleset leaps = (jump-none, jump-made, jump-refused, leap-stop, leap-go, how-arm)
 
 -- ---- patching
 
-module _ (p : Patched) (d : ℕ) (st : St) {f : ℕ} (e : f ≡ patched_number p) where
-  pub patched-no : (f ≡ 0 → ⊥) → No f ≡ patched_ans p d st
+module _ (p : Result (Unit {0}) Fault) (d : ℕ) (st : St) {f : Fault} (e : f ≡ patched_number p) where
+  pub patched-no : (f ≡ 0 → ⊥) → Err f ≡ patched_ans p d st
   patched-no h = rw (← e, ne_eqb f 0 h)
 
-  pub patched-got : f ≡ 0 → Got d st ≡ patched_ans p d st
+  pub patched-got : f ≡ 0 → Ok (d, st) ≡ patched_ans p d st
   patched-got h = rw (← e, eq-eqb f 0 h)
 
-module _ {c ws : List ℕ} {st : St} {a : Patched} {r : Ans} (d : ℕ) (ans : r ≡ patched_ans a d st) where
+module _ {c ws : List ℕ} {st : St} {a : Result (Unit {0}) Fault} {r : Result (ℕ × St) Fault} (d : ℕ) (ans : r ≡ patched_ans a d st) where
   -- the words before the state's end were patched, as q says
   patched-by : (q : Patching) → a ≡ q.answer → ws ≡ q.words → length ws ≡ st.count → (ks ps : List ℕ) → Fit (bufs c ks ps) st
       → Says (bufs (ws ++ drop st.count c) ks ps) r (patched_d q d (st_of (bufs c ks ps) st))
@@ -94,7 +91,7 @@ module _ {c ws : List ℕ} {st : St} {a : Patched} {r : Ans} (d : ℕ) (ans : r 
       all : length (ws ++ drop st.count c) ≡ length c
       all = let g = fit.words in simp (length-append, length-drop) (omega arith)
 
-      go' : (b : Bool) → Says (bufs (ws ++ drop st.count c) ks ps) (cond b (Got d st) (No (patched_number a)))
+      go' : (b : Bool) → Says (bufs (ws ++ drop st.count c) ks ps) (cond b (Ok (d, st)) (Err (patched_number a)))
           (cond b (done (d, with_words q.words (st_of (bufs c ks ps) st))) (fail (patched_number a)))
       go' true = record {
         is = rw (take_at ws (drop st.count c) st.count l, all, w);
@@ -127,35 +124,35 @@ some_fit : (c : List ℕ) (st : St) → st.count ≤ length c → Fit (bufs c (z
 some_fit c st h = record { words = h; consts = zeros-held st.slots }
 
 -- what a step leaves is in the buffer, whatever the other buffers hold
-module _ {c c' : List ℕ} {st : St} {x : Ans} {m : List ℕ → List ℕ → Res (ℕ × State)} (in_code : st.count ≤ length c)
+module _ {c c' : List ℕ} {st : St} {x : Result (ℕ × St) Fault} {m : List ℕ → List ℕ → Res (ℕ × State)} (in_code : st.count ≤ length c)
     (h : (ks ps : List ℕ) → Fit (bufs c ks ps) st → Says (bufs c' ks ps) x (m ks ps)) where
   pub counted : Counted c' x
   counted = go' x (h _ _ (some_fit c st in_code)).fit
     where
-      go' : (y : Ans) → FitAns (bufs c' (zeros st.slots) (zeros st.slots)) y → Counted c' y
-      go' (Got d s) f = f.words
-      go' (No n) f = tt
+      go' : (y : Result (ℕ × St) Fault) → FitAns (bufs c' (zeros st.slots) (zeros st.slots)) y → Counted c' y
+      go' (Ok (d, s)) f = f.words
+      go' (Err n) f = tt
 
-  pub room-kept : {a : ℕ} {s : St} → x ≡ Got a s → s.count ≤ length c'
+  pub room-kept : {a : ℕ} {s : St} → x ≡ Ok (a, s) → s.count ≤ length c'
   room-kept e = rw e at counted
 
-pub counted-got : (c : List ℕ) {x : Ans} {d : ℕ} {s : St} → x ≡ Got d s → Counted c x → s.count ≤ length c
+pub counted-got : (c : List ℕ) {x : Result (ℕ × St) Fault} {d : ℕ} {s : St} → x ≡ Ok (d, s) → Counted c x → s.count ≤ length c
 counted-got c e h = rw e at h
 
-module _ {c c1 : List ℕ} {st : St} {x : Ans} (js : List ℕ) (d : ℕ) where
-  pub turn-stop : {n : ℕ} → x ≡ No n → Steps c c1 st x (emit_d jmp_op d) → Steps c c1 st x (turn_d js d)
+module _ {c c1 : List ℕ} {st : St} {x : Result (ℕ × St) Fault} (js : List ℕ) (d : ℕ) where
+  pub turn-stop : {n : Fault} → x ≡ Err n → Steps c c1 st x (emit_d jmp_op d) → Steps c c1 st x (turn_d js d)
   unfolding turn_d
   turn-stop e h ks ps fit = stop _ e (h ks ps fit)
 
-  pub turn-go : {a : ℕ} {s : St} {c2 : List ℕ} {r : Ans} → x ≡ Got a s → Steps c c1 st x (emit_d jmp_op d) → Steps c1 c2 s r (patches_d js d) → Steps c c2 st r (turn_d js d)
+  pub turn-go : {a : ℕ} {s : St} {c2 : List ℕ} {r : Result (ℕ × St) Fault} → x ≡ Ok (a, s) → Steps c c1 st x (emit_d jmp_op d) → Steps c1 c2 s r (patches_d js d) → Steps c c2 st r (turn_d js d)
   unfolding turn_d
   turn-go e h g ks ps fit = let z = h ks ps fit in says-by (go (λ y. patches_d js d y.1) e z) (g ks ps (kept e z))
 
-  pub true-stop : (p : ℕ) {n : ℕ} → x ≡ No n → Steps c c1 st x (patches_d js d) → Steps c c1 st x (true_d js p d)
+  pub true-stop : (p : Fault) {n : Fault} → x ≡ Err n → Steps c c1 st x (patches_d js d) → Steps c c1 st x (true_d js p d)
   unfolding true_d
   true-stop p e h ks ps fit = stop _ e (h ks ps fit)
 
-  pub true-go : (p : ℕ) {a : ℕ} {s : St} {c2 c3 : List ℕ} {y r : Ans} → x ≡ Got a s → Steps c c1 st x (patches_d js d) → Steps c1 c2 s y (emit_d (load_op raw_true d) d)
+  pub true-go : (p : ℕ) {a : ℕ} {s : St} {c2 c3 : List ℕ} {y r : Result (ℕ × St) Fault} → x ≡ Ok (a, s) → Steps c c1 st x (patches_d js d) → Steps c1 c2 s y (emit_d (load_op raw_true d) d)
       → After c2 c3 y r (λ z. patch_d p d z.1) → Steps c c3 st r (true_d js p d)
   unfolding true_d
   true-go p e h g f ks ps fit =
@@ -164,18 +161,18 @@ module _ {c c1 : List ℕ} {st : St} {x : Ans} (js : List ℕ) (d : ℕ) where
       let q = f ks ps w.fit in
       says-by (ap (λ (m : Res (ℕ × State)). bind m (λ z. patch_d p d z.1)) w.is ∙ go (λ y. bind (emit_d (load_op raw_true d) d y.1) (λ z. patch_d p d z.1)) e z) q
 
-  pub bool-stop : {n : ℕ} → x ≡ No n → Steps c c1 st x (emit_d (load_op raw_false d) d) → Steps c c1 st x (bool_d js d)
+  pub bool-stop : {n : Fault} → x ≡ Err n → Steps c c1 st x (emit_d (load_op raw_false d) d) → Steps c c1 st x (bool_d js d)
   unfolding bool_d
   bool-stop e h ks ps fit = stop _ e (h ks ps fit)
 
-  module _ {a : ℕ} {s : St} {c2 : List ℕ} {y : Ans} (e : x ≡ Got a s) (h : Steps c c1 st x (emit_d (load_op raw_false d) d)) (g : Steps c1 c2 s y (emit_d jmp_op d)) where
-    pub bool-halt : {n : ℕ} → y ≡ No n → Steps c c2 st y (bool_d js d)
+  module _ {a : ℕ} {s : St} {c2 : List ℕ} {y : Result (ℕ × St) Fault} (e : x ≡ Ok (a, s)) (h : Steps c c1 st x (emit_d (load_op raw_false d) d)) (g : Steps c1 c2 s y (emit_d jmp_op d)) where
+    pub bool-halt : {n : Fault} → y ≡ Err n → Steps c c2 st y (bool_d js d)
     unfolding bool_d
     bool-halt q ks ps fit =
         let z = h ks ps fit in
         says-by (go (λ y. bind (emit_d jmp_op d y.1) (λ w. true_d js (here y.1) d w.1)) e z) (stop _ q (g ks ps (kept e z)))
 
-    pub bool-go : {a' : ℕ} {s' : St} {c3 : List ℕ} {r : Ans} → y ≡ Got a' s' → Steps c2 c3 s' r (true_d js s.count d) → Steps c c3 st r (bool_d js d)
+    pub bool-go : {a' : ℕ} {s' : St} {c3 : List ℕ} {r : Result (ℕ × St) Fault} → y ≡ Ok (a', s') → Steps c2 c3 s' r (true_d js s.count d) → Steps c c3 st r (bool_d js d)
     unfolding bool_d
     bool-go q f ks ps fit =
         let z = h ks ps fit in
@@ -207,14 +204,14 @@ module _ (old now : List ℕ) (n j : ℕ) (room : n + j < length old) (same : le
       rw (drop-set-lt (n + (j + 1)) now j _ past, split, ← drop-drop 1 (n + j) now, ← drop-drop 1 (n + j) old, rest)
 
 -- both sides of And or Or
-pub join-stop : (c js js' : List ℕ) (same : Bool) (n : ℕ) {y : Jumps} {f : ℕ} → y ≡ J.No f → Joined c c js js' same n y y
+pub join-stop : (c js js' : List ℕ) (same : Bool) (n : ℕ) {y : Result (ℕ × St) Fault} {f : Fault} → y ≡ Err f → Joined c c js js' same n y y
 join-stop c js js' same n e ks ps fit = record { is = rw e; fit = rw e tt }
 
-module _ {c js : List ℕ} {n m : ℕ} {y : Jumps} {s : St} (ready : Joinable c js n y) (e : y ≡ J.Are m s) where
+module _ {c js : List ℕ} {n m : ℕ} {y : Result (ℕ × St) Fault} {s : St} (ready : Joinable c js n y) (e : y ≡ Ok (m, s)) where
   pub join-room : n + m ≤ length js
   join-room = let r = rw e at ready.right in r.0
 
-  pub join-same : {same : Bool} → same ≡ true → Joined c c js js same n y (J.Are (n + m) s)
+  pub join-same : {same : Bool} → same ≡ true → Joined c c js js same n y (Ok ((n + m), s))
   unfolding junction_to
   join-same g ks ps fit =
       let f = rw e at fit in
@@ -223,14 +220,14 @@ module _ {c js : List ℕ} {n m : ℕ} {y : Jumps} {s : St} (ready : Joinable c 
   pub join-ready : s.count ≤ length c
   join-ready = let r = rw e at ready.right in r.1
 
-  module _ {c' : List ℕ} {z : Ans} {same : Bool} (no : same ≡ false) (h : Steps c c' s z (patches_d (take n js) 0)) where
-    pub join-refused : {f : ℕ} → z ≡ No f → Joined c c' js js same n y (J.No f)
+  module _ {c' : List ℕ} {z : Result (ℕ × St) Fault} {same : Bool} (no : same ≡ false) (h : Steps c c' s z (patches_d (take n js) 0)) where
+    pub join-refused : {f : Fault} → z ≡ Err f → Joined c c' js js same n y (Err f)
     unfolding junction_to
     join-refused q ks ps fit =
         let f = rw e at fit in
         record { is = rw (e, no) (fails (λ w. done (take m (drop n js), w.1)) q (h ks ps f.0)); fit = tt }
 
-    pub join-moved : {d : ℕ} {s' : St} {js' : List ℕ} → z ≡ Got d s' → take m js' ≡ take m (drop n js) → length js' ≡ length js → Joined c c' js js' same n y (J.Are m s')
+    pub join-moved : {d : ℕ} {s' : St} {js' : List ℕ} → z ≡ Ok (d, s') → take m js' ≡ take m (drop n js) → length js' ≡ length js → Joined c c' js js' same n y (Ok (m, s'))
     unfolding junction_to
     join-moved q moved kept' ks ps fit =
         let f = rw e at fit in

@@ -1,4 +1,6 @@
 -- Tests, operators and leaves, over plain values.
+use Rattle.std.specs.Prelude.{Option, Some, None, Result, Ok, Err}
+use Rattle.faults.specs.declared.Fault.{Fault}
 use mathlib.Core.Path.{◌≡◌, refl, sym, ◌∙◌, ap}
 use mathlib.Core.Bool.{true, false, cond}
 use mathlib.Core.List.{List}
@@ -10,30 +12,24 @@ use borrow.Author.Tests.{eq-eqb, ne_eqb}
 use Rattle.faults.specs.Numbers.{ill_formed}
 use Rattle.value.specs.Value.{nil, bool, int, float, meaning, Read, read_of, of_pair, datums}
 use Rattle.value.proofs.PairLaws.{well-at, well-is, datum-at}
-use Rattle.value.specs.declared.Lent.{Lent}
-use Rattle.value.specs.declared.Lent.TheVariants.{Well, Ill}
 use Rattle.value.specs.declared.Value.{Value}
 use Rattle.ops.specs.Ops as Ops
 use Rattle.ops.specs.Not as Not
-use Rattle.value.specs.Answer.{Result, is, fault, result_of}
-use Rattle.value.specs.declared.answer.Answer.{Answer}
-use Rattle.value.specs.declared.answer.Answer.TheVariants as A
+use Rattle.value.specs.Answer.{Answer, is, fault, result_of}
 use Rattle.eval.specs.Next.{truth_of}
 use Rattle.eval.specs.declared.next.Rule.{Rule}
-use Rattle.eval.specs.declared.next.Truth.{Truth}
-use Rattle.eval.specs.declared.next.Truth.TheVariants.{Yes, No, Wrong}
 use Rattle.eval.specs.Apply.{on, both, whether, test}
 use Rattle.eval.specs.Steps.{Lends, pair_of, alone_of, joined_of}
 
 -- ---- tests
 
 -- a choice is made by the truth
-abbrev pub chooses : Truth → Result → Result → Result
-chooses Yes b c = b
-chooses No b c = c
-chooses (Wrong n) b c = fault n
+abbrev pub chooses : Result Bool Fault → Answer → Answer → Answer
+chooses (Ok true) b c = b
+chooses (Ok false) b c = c
+chooses (Err n) b c = fault n
 
-pub whether-by : (a b c : Result) → whether a b c ≡ chooses (truth_of a) b c
+pub whether-by : (a b c : Answer) → whether a b c ≡ chooses (truth_of a) b c
 unfolding whether
 whether-by (is nil) b c = refl
 whether-by (is (bool true)) b c = refl
@@ -42,16 +38,16 @@ whether-by (is (int z)) b c = refl
 whether-by (is (float p)) b c = refl
 whether-by (fault n) b c = refl
 
-module _ (a : Result) {t : Truth} (e : t ≡ truth_of a) where
-  pub test-yes : t ≡ Yes → is (bool true) ≡ test a
+module _ (a : Answer) {t : Result Bool Fault} (e : t ≡ truth_of a) where
+  pub test-yes : t ≡ (Ok true) → is (bool true) ≡ test a
   unfolding test
   test-yes h = rw (whether-by a _ _, ← e, h)
 
-  pub test-no : t ≡ No → is (bool false) ≡ test a
+  pub test-no : t ≡ (Ok false) → is (bool false) ≡ test a
   unfolding test
   test-no h = rw (whether-by a _ _, ← e, h)
 
-  pub test-wrong : {n : ℕ} → t ≡ Wrong n → fault n ≡ test a
+  pub test-wrong : {n : Fault} → t ≡ Err n → fault n ≡ test a
   unfolding test
   test-wrong h = rw (whether-by a _ _, ← e, h)
 
@@ -59,25 +55,25 @@ pub ruleset truths = (test-yes, test-no, test-wrong)
 
 -- ---- operators
 
-module _ (k : ℕ) {x : Answer} where
-  pub both_left : (y : Result) {n : ℕ} → x ≡ A.Fault n → result_of x ≡ both (Ops.binary_of k) (result_of x) y
+module _ (k : ℕ) {x : Result Value Fault} where
+  pub both_left : (y : Answer) {n : Fault} → x ≡ Err n → result_of x ≡ both (Ops.binary_of k) (result_of x) y
   unfolding both
   both_left y e = rw e
 
-  module _ {y : Answer} {a : Value} (e : x ≡ A.Is a) where
-    pub both_right : {n : ℕ} → y ≡ A.Fault n → result_of y ≡ both (Ops.binary_of k) (result_of x) (result_of y)
+  module _ {y : Result Value Fault} {a : Value} (e : x ≡ Ok a) where
+    pub both_right : {n : Fault} → y ≡ Err n → result_of y ≡ both (Ops.binary_of k) (result_of x) (result_of y)
     unfolding both on
     both_right f = rw (e, f)
 
-    pub both-are : {b : Value} {r : Result} → y ≡ A.Is b → r ≡ Ops.binary_of k (meaning a) (meaning b) → r ≡ both (Ops.binary_of k) (result_of x) (result_of y)
+    pub both-are : {b : Value} {r : Answer} → y ≡ Ok b → r ≡ Ops.binary_of k (meaning a) (meaning b) → r ≡ both (Ops.binary_of k) (result_of x) (result_of y)
     unfolding both on
     both-are f q = rw (e, f) q
 
-  pub unary-fault : {n : ℕ} → x ≡ A.Fault n → result_of x ≡ on (cond (eqb k 6) Ops.minus_of Not.not_of) (result_of x)
+  pub unary-fault : {n : Fault} → x ≡ Err n → result_of x ≡ on (cond (eqb k 6) Ops.minus_of Not.not_of) (result_of x)
   unfolding on
   unary-fault e = rw e
 
-  module _ {a : Value} (e : x ≡ A.Is a) {r : Result} where
+  module _ {a : Value} (e : x ≡ Ok a) {r : Answer} where
     pub unary-minus : k ≡ 6 → r ≡ Ops.minus_of (meaning a) → r ≡ on (cond (eqb k 6) Ops.minus_of Not.not_of) (result_of x)
     unfolding on
     unary-minus h q = rw (e, eq-eqb k 6 h) q
@@ -92,25 +88,25 @@ pub ruleset operates = (both_left, both_right, both-are, unary-fault, unary-minu
 
 -- a match on the rule: what holds of the variant holds of the rule
 module _ {r q : Rule} (e : r ≡ q) where
-  pub alone-by : (k : ℕ) (a : Result) {s : Result} → s ≡ alone_of q k a → s ≡ alone_of r k a
+  pub alone-by : (k : ℕ) (a : Answer) {s : Answer} → s ≡ alone_of q k a → s ≡ alone_of r k a
   alone-by k a h = rw e h
 
-  pub joined_by : (k : ℕ) (a b : Result) {s : Result} → s ≡ joined_of q k a b → s ≡ joined_of r k a b
+  pub joined_by : (k : ℕ) (a b : Answer) {s : Answer} → s ≡ joined_of q k a b → s ≡ joined_of r k a b
   joined_by k a b h = rw e h
 
 pub ruleset rules = (alone-by, joined_by)
 
 -- ---- leaves
 
-pub pair-well : (x : Read) {l : Lent} {v : Value} → read_of l ≡ x → l ≡ Well v → is (meaning v) ≡ pair_of x
+pub pair-well : (x : Read) {l : Option Value} {v : Value} → read_of l ≡ x → l ≡ Some v → is (meaning v) ≡ pair_of x
 pair-well x e h = rw (← e, h)
 
-pub pair-ill : (x : Read) {l : Lent} → read_of l ≡ x → l ≡ Ill → fault ill_formed ≡ pair_of x
+pub pair-ill : (x : Read) {l : Option Value} → read_of l ≡ x → l ≡ None → fault ill_formed ≡ pair_of x
 pair-ill x e h = rw (← e, h)
 
 pub ruleset pairs = (pair-well, pair-ill)
 
-pub entry-by : (xs : List Result) (d : Result) {k q : ℕ} {r : Result} → k ≡ q → r ≡ get_or xs q d → r ≡ get_or xs k d
+pub entry-by : (xs : List Answer) (d : Answer) {k q : ℕ} {r : Answer} → k ≡ q → r ≡ get_or xs q d → r ≡ get_or xs k d
 entry-by xs d e h = rw e h
 
 -- the kind of the last arm is 5
@@ -121,7 +117,7 @@ module _ {k : ℕ} (h : k ≤ 5) (n0 : k ≡ 0 → ⊥) (n1 : k ≡ 1 → ⊥) (
   pub ref-in : {p n : ℕ} → (k ≡ 5 → p < n) → p < n
   ref-in f = f five
 
-  pub entry-last : (xs : List Result) (d : Result) {r : Result} → r ≡ get_or xs 5 d → r ≡ get_or xs k d
+  pub entry-last : (xs : List Answer) (d : Answer) {r : Answer} → r ≡ get_or xs 5 d → r ≡ get_or xs k d
   entry-last xs d q = entry-by xs d five q
 
 pub ruleset entries = (ref-in, entry-by, entry-last)
@@ -131,7 +127,7 @@ module _ {ks ps : List ℕ} (l : Lends ks ps) {p : ℕ} (h : p < length ks) wher
   pub in_payloads : p < length ps
   in_payloads = omega (arith, l.even)
 
-  pub local-is : {r : Result} → r ≡ pair_of (of_pair (get_or ks p 0) (get_or ps p 0)) → r ≡ is (get_or (datums ks ps) p nil)
+  pub local-is : {r : Answer} → r ≡ pair_of (of_pair (get_or ks p 0) (get_or ps p 0)) → r ≡ is (get_or (datums ks ps) p nil)
   local-is q =
       let m = in_payloads in
       q ∙ ap pair_of (well-is (of_pair (get_or ks p 0) (get_or ps p 0)) (well-at ks ps p l.wells h m)) ∙ ap is (sym (datum-at ks ps p h m))

@@ -1,4 +1,6 @@
 -- Tests and the rule of a node, over plain values.
+use Rattle.std.specs.Prelude.{Option, Some, None, Result, Err}
+use Rattle.faults.specs.declared.Fault.{Fault}
 use mathlib.Core.Path.{◌≡◌, refl, sym, ◌∙◌, subst}
 use mathlib.Core.Bool.{Bool, true, false, cond}
 use mathlib.Core.List.{List}
@@ -15,33 +17,27 @@ use Rattle.table.specs.Nodes.{Node, Inner, ChildIs}
 use Rattle.value.specs.Value.{meaning}
 use Rattle.value.specs.declared.Value.{Value}
 use Rattle.value.specs.declared.Value.TheVariants as C
-use Rattle.value.specs.Answer.{Result, is, result_of}
-use Rattle.value.specs.declared.answer.Answer.{Answer}
-use Rattle.value.specs.declared.answer.Answer.TheVariants as A
+use Rattle.value.specs.Answer.{Answer, is, result_of}
 use Rattle.eval.specs.Next.{Ruled, truth_of, rule_of, first_of, after_of, chosen_of, next_of}
-use Rattle.eval.specs.declared.next.Next.{Next}
-use Rattle.eval.specs.declared.next.Next.TheVariants.{Stop, Go}
 use Rattle.eval.specs.declared.next.Rule.{Rule}
 use Rattle.eval.specs.declared.next.Rule.TheVariants as R
-use Rattle.eval.specs.declared.next.Truth.{Truth}
-use Rattle.eval.specs.declared.next.Truth.TheVariants.{Wrong}
 
 -- ---- tests
 
 module _ {v : Value} where
-  pub truth-nil : v ≡ C.Nil → Wrong wrong_kind ≡ truth_of (is (meaning v))
+  pub truth-nil : v ≡ C.Nil → Err wrong_kind ≡ truth_of (is (meaning v))
   truth-nil e = rw e
 
-  pub truth-int : {z : ℤ} → v ≡ C.Int z → Wrong wrong_kind ≡ truth_of (is (meaning v))
+  pub truth-int : {z : ℤ} → v ≡ C.Int z → Err wrong_kind ≡ truth_of (is (meaning v))
   truth-int e = rw e
 
-  pub truth-float : {x : Float} → v ≡ C.Float x → Wrong wrong_kind ≡ truth_of (is (meaning v))
+  pub truth-float : {x : Float} → v ≡ C.Float x → Err wrong_kind ≡ truth_of (is (meaning v))
   truth-float e = rw e
 
-  pub truth-nan : {p : ℕ} → v ≡ C.Nan p → Wrong wrong_kind ≡ truth_of (is (meaning v))
+  pub truth-nan : {p : ℕ} → v ≡ C.Nan p → Err wrong_kind ≡ truth_of (is (meaning v))
   truth-nan e = rw e
 
-pub truth-fault : {a : Answer} {n : ℕ} → a ≡ A.Fault n → Wrong n ≡ truth_of (result_of a)
+pub truth-fault : {a : Result Value Fault} {n : Fault} → a ≡ Err n → Err n ≡ truth_of (result_of a)
 truth-fault e = rw e
 
 pub ruleset truths = (truth-nil, truth-int, truth-float, truth-nan, truth-fault)
@@ -54,19 +50,19 @@ module _ {r q : Rule} (e : r ≡ q) where
   first_by ws i h = rw e h
 
 -- what follows on the first child's answer, from the children's places
-module _ (ws : List ℕ) (i : ℕ) (a : Result) {r : Rule} {n : Next} where
+module _ (ws : List ℕ) (i : ℕ) (a : Answer) {r : Rule} {n : Option ℕ} where
   module _ {l : ℕ} (c : ChildIs ws i (child1 ws i) l) where
-    pub next-operator : r ≡ R.Operator → n ≡ after_of a (Go l) → n ≡ next_of r ws i a
+    pub next-operator : r ≡ R.Operator → n ≡ after_of a (Some l) → n ≡ next_of r ws i a
     next-operator e h = let p = c.is in rw (e, ← p) h
 
-    module _ {t : Truth} (f : t ≡ truth_of a) where
-      pub next-and : r ≡ R.And → n ≡ chosen_of t (Go l) Stop → n ≡ next_of r ws i a
+    module _ {t : Result Bool Fault} (f : t ≡ truth_of a) where
+      pub next-and : r ≡ R.And → n ≡ chosen_of t (Some l) None → n ≡ next_of r ws i a
       next-and e h = let p = c.is in rw (e, ← p, ← f) h
 
-      pub next-or : r ≡ R.Or → n ≡ chosen_of t Stop (Go l) → n ≡ next_of r ws i a
+      pub next-or : r ≡ R.Or → n ≡ chosen_of t None (Some l) → n ≡ next_of r ws i a
       next-or e h = let p = c.is in rw (e, ← p, ← f) h
 
-      pub next-ternary : {m : ℕ} → r ≡ R.Ternary → ChildIs ws i (child2 ws i) m → n ≡ chosen_of t (Go m) (Go l) → n ≡ next_of r ws i a
+      pub next-ternary : {m : ℕ} → r ≡ R.Ternary → ChildIs ws i (child2 ws i) m → n ≡ chosen_of t (Some m) (Some l) → n ≡ next_of r ws i a
       next-ternary e d h = let p = c.is in let q = d.is in rw (e, ← q, ← p, ← f) h
 
 -- the kinds that a rule has

@@ -1,4 +1,5 @@
 -- What the code finds of an Int beside a Float is how the two stand.
+use Rattle.std.specs.Prelude.{Option, Some, None}
 use mathlib.Core.Path.{◌≡◌, refl, sym, ap, ◌∙◌}
 use mathlib.Core.Bool.{Bool, true, false, cond}
 use Prim.Native.Nat.{ℕ, ◌+◌, ◌-◌, ◌*◌, ◌/◌, ◌%◌, ◌^◌, ◌≤◌, ◌<◌}
@@ -20,10 +21,6 @@ use Rattle.float.specs.Float as F
 use Rattle.float.specs.Order.{order}
 use Rattle.float.specs.Standing.{exactly, standing}
 use Rattle.float.specs.Places.{two52, two63, is_far, whole_part, place_of, stands_by}
-use Rattle.float.specs.declared.Whole.{Whole}
-use Rattle.float.specs.declared.Whole.TheVariants.{Is, Wide}
-use Rattle.float.specs.declared.standing.Place.{Place}
-use Rattle.float.specs.declared.standing.Place.TheVariants.{Far, Like}
 use Rattle.float.proofs.Ops.{of_int-exact}
 use Rattle.float.proofs.standing.Wide.{wide-stands, whole-limit}
 
@@ -42,17 +39,17 @@ module _ (q : ℕ) {s : Bool} {t : Bool} (d : s ≡ sign q) (e : t ≡ is_far s 
   far-is : is_far (sign q) (rest q) ≡ t
   far-is = ap (λ (b : Bool). is_far b (rest q)) (sym d) ∙ sym e
 
-  pub place-far : t ≡ true → Far ≡ place_of q
+  pub place-far : t ≡ true → None ≡ place_of q
   unfolding place_of
   place-far h = rw (far-is ∙ h)
 
-  pub place-near : t ≡ false → rest q < two52 → Like 0 ≡ place_of q
+  pub place-near : t ≡ false → rest q < two52 → Some 0 ≡ place_of q
   unfolding place_of
   place-near h k = rw (far-is ∙ h, lt-ltb (rest q) two52 k)
 
-  pub place-like : {m z : ℕ} → t ≡ false → two52 ≤ rest q → m ≡ whole_part (rest q) → z ≡ bits_of s m → Like z ≡ place_of q
+  pub place-like : {m z : ℕ} → t ≡ false → two52 ≤ rest q → m ≡ whole_part (rest q) → z ≡ bits_of s m → Some z ≡ place_of q
   unfolding place_of
-  place-like h k f g = rw (far-is ∙ h, le-ltb (rest q) two52 k) (ap Like (g ∙ rw (f, d)))
+  place-like h k f g = rw (far-is ∙ h, le-ltb (rest q) two52 k) (ap Some (g ∙ rw (f, d)))
 
   pub near-limit : t ≡ false → rest q ≤ two63
   near-limit h = go s (sym e ∙ h)
@@ -63,15 +60,15 @@ module _ (q : ℕ) {s : Bool} {t : Bool} (d : s ≡ sign q) (e : t ≡ is_far s 
 
 -- ---- how an Int stands
 
-module _ (op : Cmp) (p q : ℕ) (f : Fits w64 p) (w : 2 ^ 53 < nat_abs (to_z w64 p)) {a : Place} (e : a ≡ place_of q) where
+module _ (op : Cmp) (p q : ℕ) (f : Fits w64 p) (w : 2 ^ 53 < nat_abs (to_z w64 p)) {a : Option ℕ} (e : a ≡ place_of q) where
   stands_by_lem : standing (to_z w64 p) q ≡ stands_by (to_z w64 p) q a
   stands_by_lem = wide-stands (to_z w64 p) q (to_z-Fits w64 p f) w ∙ ap (stands_by (to_z w64 p) q) (sym e)
 
-  pub stands-far : {t : Bool} → a ≡ Far → t ≡ holds op (order (read 0) (read q)) → t ≡ holds op (standing (to_z w64 p) q)
+  pub stands-far : {t : Bool} → a ≡ None → t ≡ holds op (order (read 0) (read q)) → t ≡ holds op (standing (to_z w64 p) q)
   unfolding standing read negative
   stands-far h d = d ∙ ap (holds op) (sym (stands_by_lem ∙ ap (stands_by (to_z w64 p) q) h))
 
-  pub stands-like : {t : Bool} {z : ℕ} → a ≡ Like z → t ≡ holds op (order_z (to_z w64 p) (to_z w64 z)) → t ≡ holds op (standing (to_z w64 p) q)
+  pub stands-like : {t : Bool} {z : ℕ} → a ≡ Some z → t ≡ holds op (order_z (to_z w64 p) (to_z w64 z)) → t ≡ holds op (standing (to_z w64 p) q)
   stands-like h d = d ∙ ap (holds op) (sym (stands_by_lem ∙ ap (stands_by (to_z w64 p) q) h))
 
 -- an Int that is a Float
@@ -79,20 +76,20 @@ pub narrow-stands : (n : ℤ) (q : ℕ) → nat_abs n ≤ 2 ^ 53 → order (read
 unfolding standing
 narrow-stands n q h = ap (λ (x : Real). order x (read q)) (of_int-exact n h)
 
-module _ (op : Cmp) (p q : ℕ) {w : Whole} (e : w ≡ F.whole (to_z w64 p)) where
-  pub is_wide : w ≡ Wide → 2 ^ 53 < nat_abs (to_z w64 p)
+module _ (op : Cmp) (p q : ℕ) {w : Option ℕ} (e : w ≡ F.whole (to_z w64 p)) where
+  pub is_wide : w ≡ None → 2 ^ 53 < nat_abs (to_z w64 p)
   unfolding F.whole
   is_wide d = go (leb (nat_abs (to_z w64 p)) (2 ^ 53)) refl (sym e ∙ d)
     where
-      go : (b : Bool) → leb (nat_abs (to_z w64 p)) (2 ^ 53) ≡ b → cond b (Is (F.of_int (to_z w64 p))) Wide ≡ Wide → 2 ^ 53 < nat_abs (to_z w64 p)
+      go : (b : Bool) → leb (nat_abs (to_z w64 p)) (2 ^ 53) ≡ b → cond b (Some (F.of_int (to_z w64 p))) None ≡ None → 2 ^ 53 < nat_abs (to_z w64 p)
       go true l k = let z : ◌≡◌ {A = ℕ} 0 1 = cc in absurd (omega arith)
       go false l k = leb-false (nat_abs (to_z w64 p)) (2 ^ 53) l
 
-  pub stands-narrow : {m : ℕ} {t : Bool} → w ≡ Is m → t ≡ holds op (order (read m) (read q)) → t ≡ holds op (standing (to_z w64 p) q)
+  pub stands-narrow : {m : ℕ} {t : Bool} → w ≡ Some m → t ≡ holds op (order (read m) (read q)) → t ≡ holds op (standing (to_z w64 p) q)
   unfolding F.whole
   stands-narrow {m} {t} d g = go (leb (nat_abs (to_z w64 p)) (2 ^ 53)) refl (sym e ∙ d)
     where
-      go : (b : Bool) → leb (nat_abs (to_z w64 p)) (2 ^ 53) ≡ b → cond b (Is (F.of_int (to_z w64 p))) Wide ≡ Is m → t ≡ holds op (standing (to_z w64 p) q)
+      go : (b : Bool) → leb (nat_abs (to_z w64 p)) (2 ^ 53) ≡ b → cond b (Some (F.of_int (to_z w64 p))) None ≡ Some m → t ≡ holds op (standing (to_z w64 p) q)
       go true l k =
           let z : m ≡ F.of_int (to_z w64 p) = cc in
           g ∙ ap (λ (x : ℕ). holds op (order (read x) (read q))) z ∙ ap (holds op) (narrow-stands (to_z w64 p) q (leb-true (nat_abs (to_z w64 p)) (2 ^ 53) l))

@@ -1,5 +1,6 @@
 -- An Int beyond 2^53 stands to a Float as it stands to the place of the Float among the Ints: sizes in steps of 2^-1074 are compared after
 -- a common factor is taken out, and the patterns of 2^52 and 2^63 bound the sizes of floats.
+use Rattle.std.specs.Prelude.{Some, None}
 use mathlib.Core.Path.{◌≡◌, refl, sym, ap, ap₂, ◌∙◌, subst}
 use mathlib.Core.Bool.{Bool, true, false, cond}
 use Prim.Native.Nat.{ℕ, zero, suc, ◌+◌, ◌-◌, ◌*◌, ◌/◌, ◌%◌, ◌^◌, ◌≤◌, ◌<◌}
@@ -21,8 +22,6 @@ use Rattle.float.specs.Bits.{Real, nan, inf, fin, sign, rest, infinity, is_nan, 
 use Rattle.float.specs.Order.{order}
 use Rattle.float.specs.Standing.{exactly, standing}
 use Rattle.float.specs.Places.{two52, two63, is_far, whole_part, place_of, stands_by}
-use Rattle.float.specs.declared.standing.Place.{Place}
-use Rattle.float.specs.declared.standing.Place.TheVariants.{Far, Like}
 
 abbrev K : ℕ
 K = 2 ^ 1074
@@ -281,7 +280,7 @@ wide-stands n q f w =
     ∙ by (is_far (sign q) (rest q)) (ltb (rest q) two52)
   where
     by : (c d : Bool) → cond c (standing (pos 0) q) (order_z n (to_z w64 (cond d 0 (bits_of (sign q) (whole_part (rest q))))))
-        ≡ stands_by n q (cond c Far (cond d (Like 0) (Like (bits_of (sign q) (whole_part (rest q))))))
+        ≡ stands_by n q (cond c None (cond d (Some 0) (Some (bits_of (sign q) (whole_part (rest q))))))
     by true d = refl
     by false true = refl
     by false false = refl

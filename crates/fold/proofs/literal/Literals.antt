@@ -1,4 +1,6 @@
 -- What the tests of a literal have to show: its size, its bits, the literal at a node.
+use Rattle.std.specs.Prelude.{Option, Some, None}
+use Rattle.insns.specs.declared.op.Imm16.{Imm16}
 use mathlib.Core.Path.{◌≡◌, refl, sym, ap, subst, ◌∙◌}
 use mathlib.Core.Bool.{Bool, true, false, cond, ◌&&◌}
 use mathlib.Core.List.{List}
@@ -17,12 +19,6 @@ use Rattle.table.specs.Tree.{int, Tree, leaf, Kind, leaf_kind, unary_kind, binar
 use Rattle.table.proofs.Arities.{at-kind}
 use Rattle.table.proofs.Trees.{View, is_leaf, is-unary, is-binary, is-ternary, view, leaf-at}
 use Rattle.insns.proofs.bits.Sign.{back}
-use Rattle.fold.specs.declared.literal.Lit.{Lit}
-use Rattle.fold.specs.declared.literal.Lit.TheVariants.{Is, Not}
-use Rattle.fold.specs.declared.literal.Imm.{Imm}
-use Rattle.fold.specs.declared.literal.Imm.TheVariants.{Imm16, NoImm}
-use Rattle.fold.specs.declared.literal.Amount.TheVariants.{By, NoShift}
-use Rattle.fold.specs.declared.literal.Run.TheVariants.{Ones, Other}
 use Rattle.fold.specs.Literal.{bits, run_at, run_from, bit_run, lit_of, const_of, imm_of, as_imm16, amount_of}
 
 never : {X : Type 0} → true ≡ false → X
@@ -40,7 +36,7 @@ module _ (z : ℤ) (f : mag z < 9223372036854775808) where
   pub within_by : (n : ℕ) {t : Bool} → t ≡ ltb (mag (to_z w64 (of_z w64 z))) n → t ≡ ltb (mag z) n
   within_by n e = rw held at e
 
-  pub imm-fits : {t : Bool} → t ≡ ltb (mag (to_z w64 (of_z w64 z))) 32768 → t ≡ true → Imm16 (record { n = to_z w16 (of_z w16 (to_z w64 (of_z w64 z))) }) ≡ imm_of z
+  pub imm-fits : {t : Bool} → t ≡ ltb (mag (to_z w64 (of_z w64 z))) 32768 → t ≡ true → Some (record { n = to_z w16 (of_z w16 (to_z w64 (of_z w64 z))) }) ≡ imm_of z
   imm-fits w h =
       let q : ltb (mag z) 32768 ≡ true = sym (within_by 32768 w) ∙ h in
       rw (held, q, back w16 z (ltb-true (mag z) 32768 q))
@@ -48,21 +44,21 @@ module _ (z : ℤ) (f : mag z < 9223372036854775808) where
   pub imm-cast : {t : Bool} → t ≡ ltb (mag (to_z w64 (of_z w64 z))) 32768 → t ≡ true → SFits w16 (to_z w64 (of_z w64 z))
   imm-cast w h = record { sfits = ltb-true (mag (to_z w64 (of_z w64 z))) 32768 (sym w ∙ h) }
 
-  pub imm-far : {t : Bool} → t ≡ ltb (mag (to_z w64 (of_z w64 z))) 32768 → t ≡ false → NoImm ≡ imm_of z
+  pub imm-far : {t : Bool} → t ≡ ltb (mag (to_z w64 (of_z w64 z))) 32768 → t ≡ false → None ≡ imm_of z
   imm-far w h = let q : ltb (mag z) 32768 ≡ false = sym (within_by 32768 w) ∙ h in rw q
 
   -- a shift's amount
-  pub amount-neg : lt_z (to_z w64 (of_z w64 z)) (pos 0) ≡ true → NoShift ≡ amount_of z
+  pub amount-neg : lt_z (to_z w64 (of_z w64 z)) (pos 0) ≡ true → None ≡ amount_of z
   amount-neg h = go z (rw held at h)
     where
-      go : (y : ℤ) → lt_z y (pos 0) ≡ true → NoShift ≡ amount_of y
+      go : (y : ℤ) → lt_z y (pos 0) ≡ true → None ≡ amount_of y
       go (pos n) e = absurd (let l : n < 0 = ltb-true n 0 e in omega arith)
       go (negsuc n) e = refl
 
-  pub amount-far : lt_z (pos 63) (to_z w64 (of_z w64 z)) ≡ true → NoShift ≡ amount_of z
+  pub amount-far : lt_z (pos 63) (to_z w64 (of_z w64 z)) ≡ true → None ≡ amount_of z
   amount-far h = go z (rw held at h)
     where
-      go : (y : ℤ) → lt_z (pos 63) y ≡ true → NoShift ≡ amount_of y
+      go : (y : ℤ) → lt_z (pos 63) y ≡ true → None ≡ amount_of y
       go (pos n) e = let l : 63 < n = ltb-true 63 n e in rw (le-ltb n 64 l)
       go (negsuc n) e = refl
 
@@ -74,10 +70,10 @@ module _ (z : ℤ) (f : mag z < 9223372036854775808) where
         go (pos n) e g = (tt, record { fits = omega (arith, ltb-false 63 n g) })
         go (negsuc n) e g = never e
 
-    pub amount-is : By (nat_abs (to_z w64 (of_z w64 z))) ≡ amount_of z
+    pub amount-is : Some (nat_abs (to_z w64 (of_z w64 z))) ≡ amount_of z
     amount-is = rw held (go z (rw held at low) (rw held at high))
       where
-        go : (y : ℤ) → lt_z y (pos 0) ≡ false → lt_z (pos 63) y ≡ false → By (nat_abs y) ≡ amount_of y
+        go : (y : ℤ) → lt_z y (pos 0) ≡ false → lt_z (pos 63) y ≡ false → Some (nat_abs y) ≡ amount_of y
         go (pos n) e g = let l : n ≤ 63 = ltb-false 63 n g in rw (lt-ltb n 64 (omega arith))
         go (negsuc n) e g = never e
 
@@ -129,11 +125,11 @@ no_run true a b = refl
 no_run false a b = refl
 
 module _ (z : ℤ) (f : mag z < 9223372036854775808) where
-  pub run_none : le_z (to_z w64 (of_z w64 z)) (pos 0) ≡ true → Other ≡ bit_run z
+  pub run_none : le_z (to_z w64 (of_z w64 z)) (pos 0) ≡ true → None ≡ bit_run z
   unfolding bit_run
   run_none h = go z (rw (held z f) at h)
     where
-      go : (y : ℤ) → le_z y (pos 0) ≡ true → Other ≡ bit_run y
+      go : (y : ℤ) → le_z y (pos 0) ≡ true → None ≡ bit_run y
       go (pos n) e = let l : n ≡ 0 = omega (arith, leb-true n 0 e) in rw (eq-eqb n 0 l)
       go (negsuc n) e = refl
 
@@ -155,20 +151,20 @@ module _ (z : ℤ) (f : mag z < 9223372036854775808) where
         go (negsuc n) e = never e
 
     module _ {lo : ℕ} (e : lo ≡ bits 0 64 (nat_abs (to_z w64 (of_z w64 z)))) where
-      pub run-low : 62 < lo → Other ≡ bit_run z
+      pub run-low : 62 < lo → None ≡ bit_run z
       unfolding run_from run_at
-      run-low l = sym (sym run_is ∙ rw (← e, lt-leb (lo + bits 1 64 (nat_abs (to_z w64 (of_z w64 z)) / 2 ^ lo)) 62 (omega arith)) (no_run (eqb (nat_abs (to_z w64 (of_z w64 z)) / 2 ^ lo / 2 ^ bits 1 64 (nat_abs (to_z w64 (of_z w64 z)) / 2 ^ lo)) 0) (Ones lo (bits 1 64 (nat_abs (to_z w64 (of_z w64 z)) / 2 ^ lo))) Other))
+      run-low l = sym (sym run_is ∙ rw (← e, lt-leb (lo + bits 1 64 (nat_abs (to_z w64 (of_z w64 z)) / 2 ^ lo)) 62 (omega arith)) (no_run (eqb (nat_abs (to_z w64 (of_z w64 z)) / 2 ^ lo / 2 ^ bits 1 64 (nat_abs (to_z w64 (of_z w64 z)) / 2 ^ lo)) 0) (Some (lo, (bits 1 64 (nat_abs (to_z w64 (of_z w64 z)) / 2 ^ lo)))) None))
 
       module _ {len : ℕ} (g : len ≡ bits 1 64 (nat_abs (to_z w64 (of_z w64 z)) / 2 ^ lo)) where
-        pub run_long : 62 < lo + len → Other ≡ bit_run z
+        pub run_long : 62 < lo + len → None ≡ bit_run z
         unfolding run_from run_at
-        run_long l = sym (sym run_is ∙ rw (← e, ← g, lt-leb (lo + len) 62 l) (no_run (eqb (nat_abs (to_z w64 (of_z w64 z)) / 2 ^ lo / 2 ^ len) 0) (Ones lo len) Other))
+        run_long l = sym (sym run_is ∙ rw (← e, ← g, lt-leb (lo + len) 62 l) (no_run (eqb (nat_abs (to_z w64 (of_z w64 z)) / 2 ^ lo / 2 ^ len) 0) (Some (lo, len)) None))
 
-        pub run-above : (nat_abs (to_z w64 (of_z w64 z)) / 2 ^ lo / 2 ^ len ≡ 0 → ⊥) → Other ≡ bit_run z
+        pub run-above : (nat_abs (to_z w64 (of_z w64 z)) / 2 ^ lo / 2 ^ len ≡ 0 → ⊥) → None ≡ bit_run z
         unfolding run_from run_at
         run-above n = sym (sym run_is ∙ rw (← e, ← g, ne_eqb (nat_abs (to_z w64 (of_z w64 z)) / 2 ^ lo / 2 ^ len) 0 n))
 
-        pub run-ones : lo + len ≤ 62 → nat_abs (to_z w64 (of_z w64 z)) / 2 ^ lo / 2 ^ len ≡ 0 → Ones lo len ≡ bit_run z
+        pub run-ones : lo + len ≤ 62 → nat_abs (to_z w64 (of_z w64 z)) / 2 ^ lo / 2 ^ len ≡ 0 → Some (lo, len) ≡ bit_run z
         unfolding run_from run_at
         run-ones l n = sym (sym run_is ∙ rw (← e, ← g, eq-eqb (nat_abs (to_z w64 (of_z w64 z)) / 2 ^ lo / 2 ^ len) 0 n, le-leb (lo + len) 62 l))
 
@@ -177,53 +173,53 @@ pub ruleset runs = (bits_small, run_none, run-low, run_long, run-above, run-ones
 -- ---- the literal at a node
 
 module _ {ws : List ℕ} {i : ℕ} (h : Inner ws i 0) {k : ℕ} (e : k ≡ kind_at ws i) where
-  pub lit_is : {p : ℕ} {z : ℤ} → k ≡ 3 → p ≡ payload_at ws i → z ≡ to_z w64 p → mag z < 9223372036854775808 → Is (to_z w64 (of_z w64 z)) ≡ lit_of (tree ws i)
+  pub lit_is : {p : ℕ} {z : ℤ} → k ≡ 3 → p ≡ payload_at ws i → z ≡ to_z w64 p → mag z < 9223372036854775808 → Some (to_z w64 (of_z w64 z)) ≡ lit_of (tree ws i)
   unfolding lit_of kind_of
   lit_is {z = z} g q r f =
       let three : kind_at ws i ≡ 3 = sym e ∙ g in
       let v = leaf-at ws h.base i h.node (λ (p : ℕ). int (to_z w64 p)) (rw three) in
-      rw (v.is, held z f) (ap Is (r ∙ ap (to_z w64) q))
+      rw (v.is, held z f) (ap Some (r ∙ ap (to_z w64) q))
 
   lit-rule : ℕ → Kind → Type 0
-  lit-rule k (leaf_kind f) = (k ≡ 3 → ⊥) → (p : ℕ) → Not ≡ lit_of (leaf (f p))
+  lit-rule k (leaf_kind f) = (k ≡ 3 → ⊥) → (p : ℕ) → None ≡ lit_of (leaf (f p))
   lit-rule k (unary_kind o) = Unit {0}
   lit-rule k (binary_kind o) = Unit {0}
   lit-rule k ternary_kind = Unit {0}
   lit-rule k no_kind = Unit {0}
 
-  pub lit-not : (k ≡ 3 → ⊥) → Not ≡ lit_of (tree ws i)
+  pub lit-not : (k ≡ 3 → ⊥) → None ≡ lit_of (tree ws i)
   unfolding lit_of lit-rule
   lit-not g = go _ (view h.node)
     where
       rule : lit-rule (kind_at ws i) (kind_of (kind_at ws i))
       rule = at-kind lit-rule (λ j l. tt) (λ h p. refl, (λ h p. refl, (λ h p. refl, (λ h p. absurd (h refl), (λ h p. refl, (λ h p. refl, omega arith)))))) (kind_at ws i)
 
-      go : (n : ℕ) → View ws h.base i n → Not ≡ lit_of (tree ws i)
+      go : (n : ℕ) → View ws h.base i n → None ≡ lit_of (tree ws i)
       go n (is_leaf f v) = rw v.is (subst (lit-rule (kind_at ws i)) v.kind rule (λ q. g (e ∙ q)) _)
       go n (is-unary o v) = rw v.is
       go n (is-binary o v) = rw v.is
       go n (is-ternary v) = rw v.is
 
 -- what is made of it
-module _ {l : Lit} (t : Tree) (e : l ≡ lit_of t) where
-  pub const-none : l ≡ Not → l ≡ const_of t
+module _ {l : Option ℤ} (t : Tree) (e : l ≡ lit_of t) where
+  pub const-none : l ≡ None → l ≡ const_of t
   const-none h = rw (← e, h)
 
-  pub imm-none : l ≡ Not → NoImm ≡ as_imm16 t
+  pub imm-none : l ≡ None → None ≡ as_imm16 t
   imm-none h = rw (← e, h)
 
-  module _ {z : ℤ} (g : l ≡ Is z) (f : mag z < 9223372036854775808) where
-    pub imm-lit : {r : Imm} → r ≡ imm_of (to_z w64 (of_z w64 z)) → r ≡ as_imm16 t
+  module _ {z : ℤ} (g : l ≡ Some z) (f : mag z < 9223372036854775808) where
+    pub imm-lit : {r : Option Imm16} → r ≡ imm_of (to_z w64 (of_z w64 z)) → r ≡ as_imm16 t
     imm-lit q = rw (← e, g) (rw (held z f) at q)
 
     module _ {b : Bool} (w : b ≡ ltb (mag (to_z w64 (of_z w64 z))) 2305843009213693952) where
       fixed : b ≡ ltb (mag z) 2305843009213693952
       fixed = within_by z f 2305843009213693952 w
 
-      pub const-fixnum : b ≡ true → Is z ≡ const_of t
+      pub const-fixnum : b ≡ true → Some z ≡ const_of t
       const-fixnum h = let q : ltb (mag z) 2305843009213693952 ≡ true = sym fixed ∙ h in rw (← e, g, q)
 
-      pub const-big : b ≡ false → Not ≡ const_of t
+      pub const-big : b ≡ false → None ≡ const_of t
       const-big h = let q : ltb (mag z) 2305843009213693952 ≡ false = sym fixed ∙ h in rw (← e, g, q)
 
 pub ruleset literals = (lit_is, lit-not, const-none, const-fixnum, const-big, imm-none, imm-lit)

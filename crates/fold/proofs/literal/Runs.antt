@@ -1,4 +1,5 @@
 -- What `bit_run` finds is 01's one run of ones, and it finds every one.
+use Rattle.std.specs.Prelude.{Option, Some, None}
 use mathlib.Core.Path.{◌≡◌, refl, sym, ap, ◌∙◌}
 use mathlib.Core.Bool.{Bool, true, false, cond, ◌&&◌}
 use mathlib.Core.Logic.{◌↔◌}
@@ -9,8 +10,6 @@ use lib.Dec.{eqb, leb}
 use lib.IntN.{ℤ, pos, negsuc}
 use lib.Pow.{pow_pos}
 use borrow.Author.Tests.{eqb-true, eqb-false, leb-true, ne_eqb, le-leb}
-use Rattle.fold.specs.declared.literal.Run.{Run}
-use Rattle.fold.specs.declared.literal.Run.TheVariants.{Ones, Other}
 use Rattle.fold.specs.Literal.{OneRun, bits, run_at, run_from, bit_run}
 
 both : (a b : Bool) → a && b ≡ true → (a ≡ true) × (b ≡ true)
@@ -59,7 +58,7 @@ run_of m lo len zeros ones none =
     let body : m / 2 ^ lo ≡ 2 ^ len - 1 = omega (arith, mul-one (2 ^ len)) in
     shift.1 ∙ ap (λ (q : ℕ). 2 ^ lo * q) (sym (mul-div_right shift.0 (pow_pos lo)) ∙ ap (λ (n : ℕ). n / 2 ^ lo) (sym shift.1) ∙ body)
 
-run_is : (z : ℤ) (lo len : ℕ) → bit_run z ≡ Ones lo len → OneRun z lo len
+run_is : (z : ℤ) (lo len : ℕ) → bit_run z ≡ Some (lo, len) → OneRun z lo len
 unfolding bit_run run_from run_at
 run_is (negsuc m) lo len h = absurd (let z : ◌≡◌ {A = ℕ} 0 1 = cc in omega arith)
 run_is (pos m) lo len h = go (eqb m 0) refl h
@@ -70,7 +69,7 @@ run_is (pos m) lo len h = go (eqb m 0) refl h
     l : ℕ
     l = bits 1 64 (m / 2 ^ k)
 
-    ran : (m ≡ 0 → ⊥) → (b : Bool) → eqb (m / 2 ^ k / 2 ^ l) 0 && leb (k + l) 62 ≡ b → cond b (Ones k l) Other ≡ Ones lo len → OneRun (pos m) lo len
+    ran : (m ≡ 0 → ⊥) → (b : Bool) → eqb (m / 2 ^ k / 2 ^ l) 0 && leb (k + l) 62 ≡ b → cond b (Some (k, l)) None ≡ Some (lo, len) → OneRun (pos m) lo len
     ran some false e h = absurd (let z : ◌≡◌ {A = ℕ} 0 1 = cc in omega arith)
     ran some true e h =
         let s = both (eqb (m / 2 ^ k / 2 ^ l) 0) (leb (k + l) 62) e in
@@ -79,7 +78,7 @@ run_is (pos m) lo len h = go (eqb m 0) refl h
         let is : m ≡ 2 ^ k * (2 ^ l - 1) = run_of m k l refl refl (eqb-true (m / 2 ^ k / 2 ^ l) 0 s.0) in
         rw (← a, ← b) (record { is = ap pos is; positive = omega arith; short = leb-true (k + l) 62 s.1 })
 
-    go : (b : Bool) → eqb m 0 ≡ b → cond b Other (run_from m k) ≡ Ones lo len → OneRun (pos m) lo len
+    go : (b : Bool) → eqb m 0 ≡ b → cond b None (run_from m k) ≡ Some (lo, len) → OneRun (pos m) lo len
     go true e h = absurd (let z : ◌≡◌ {A = ℕ} 0 1 = cc in omega arith)
     go false e h = ran (eqb-false m 0 e) (eqb (m / 2 ^ k / 2 ^ l) 0 && leb (k + l) 62) refl h
 
@@ -117,7 +116,7 @@ odd-ones : (len : ℕ) → 0 < len → (2 ^ len - 1) % 2 ≡ 1
 odd-ones zero h = absurd (omega arith)
 odd-ones (suc len) h = let p = pow_pos len in let q = pow-succ' 2 len in omega arith
 
-found_at : (lo len : ℕ) → 0 < 2 ^ lo * (2 ^ len - 1) → lo + len ≤ 62 → bit_run (pos (2 ^ lo * (2 ^ len - 1))) ≡ Ones lo len
+found_at : (lo len : ℕ) → 0 < 2 ^ lo * (2 ^ len - 1) → lo + len ≤ 62 → bit_run (pos (2 ^ lo * (2 ^ len - 1))) ≡ Some (lo, len)
 unfolding bit_run run_from run_at
 found_at lo len some short =
     let m = 2 ^ lo * (2 ^ len - 1) in
@@ -128,19 +127,19 @@ found_at lo len some short =
     let above : (2 ^ len - 1) / 2 ^ len ≡ 0 = div-past (2 ^ len - 1) (2 ^ len) 0 (pow_pos len) (let p = pow_pos len in let q = mul-one (2 ^ len) in omega arith) in
     rw (ne_eqb m 0 (λ e. omega arith), zeros, shifted, ones, above, le-leb (lo + len) 62 short)
 
-run-found : (z : ℤ) (lo len : ℕ) → OneRun z lo len → bit_run z ≡ Ones lo len
+run-found : (z : ℤ) (lo len : ℕ) → OneRun z lo len → bit_run z ≡ Some (lo, len)
 run-found z lo len r = ap bit_run r.is ∙ found_at lo len r.positive r.short
 
 -- ---- both directions
 
 -- `bit_run z` is `Ones lo len` exactly where z is that run
-pub run-exactly : (z : ℤ) (lo len : ℕ) → (bit_run z ≡ Ones lo len) ↔ OneRun z lo len
+pub run-exactly : (z : ℤ) (lo len : ℕ) → (bit_run z ≡ Some (lo, len)) ↔ OneRun z lo len
 run-exactly z lo len = (run_is z lo len, run-found z lo len)
 
 -- and `Other` exactly where z is no run
-pub run_none : (z : ℤ) → (bit_run z ≡ Other) ↔ ((lo len : ℕ) → OneRun z lo len → ⊥)
+pub run_none : (z : ℤ) → (bit_run z ≡ None) ↔ ((lo len : ℕ) → OneRun z lo len → ⊥)
 run_none z = (λ h lo len r. let e = run-found z lo len r in let z : ◌≡◌ {A = ℕ} 0 1 = cc in omega arith, λ h. go (bit_run z) refl h)
   where
-    go : (r : Run) → bit_run z ≡ r → ((lo len : ℕ) → OneRun z lo len → ⊥) → bit_run z ≡ Other
-    go (Ones lo len) e h = absurd (h lo len (run_is z lo len e))
-    go Other e h = e
+    go : (r : Option (ℕ × ℕ)) → bit_run z ≡ r → ((lo len : ℕ) → OneRun z lo len → ⊥) → bit_run z ≡ None
+    go (Some (lo, len)) e h = absurd (h lo len (run_is z lo len e))
+    go None e h = e

@@ -1,4 +1,6 @@
 -- An arm knows which form or field it has; the fields of every form have room in a word, and are those of the definition.
+use Rattle.std.specs.Prelude.{Option, None}
+use Rattle.insns.specs.declared.Insn.{Insn}
 use mathlib.Core.Path.{◌≡◌, refl, sym, ap, ◌∙◌}
 use mathlib.Core.Bool.{Bool, true, ◌&&◌, cond}
 use mathlib.Core.List.{List, [], ◌∷◌}
@@ -15,7 +17,6 @@ use Rattle.insns.proofs.Table.{and-true}
 use Rattle.insns.specs.Fields.{Width, bits, Field, make, raw_bits}
 use Rattle.insns.specs.Bits.{twos}
 use Rattle.insns.specs.Insns.{form_at, widths}
-use Rattle.insns.specs.declared.Made.{Made}
 use Rattle.insns.specs.declared.op.Form.{Form}
 use Rattle.operands.specs.Encode.{fields_from, encode_of}
 use Rattle.operands.specs.Shapes.{size_of, bits_of, shapes_of, Narrow}
@@ -148,7 +149,7 @@ module _ {s : Shapes} {ma mb mc md me : ℕ} (ka : ma ≡ size_of s.a) (kb : mb 
   pub room_by : (f : Form) → s ≡ shapes_of f → ma * (mb * (mc * (md * me))) ≤ 2 ^ 56
   room_by f k = rw (ka, kb, kc, kd, ke) (fit f k).room
 
-  pub encode-by : (n a b c d e : ℕ) {f : Form} {xa xb xc xd xe : ℕ} {r : Made} → n ≤ 76 → f ≡ form_at n → s ≡ shapes_of f
+  pub encode-by : (n a b c d e : ℕ) {f : Form} {xa xb xc xd xe : ℕ} {r : Option Insn} → n ≤ 76 → f ≡ form_at n → s ≡ shapes_of f
       → xa ≡ bits_of s.a a → xb ≡ bits_of s.b b → xc ≡ bits_of s.c c → xd ≡ bits_of s.d d → xe ≡ bits_of s.e e
       → r ≡ make n ((ma, xa) ∷ (mb, xb) ∷ (mc, xc) ∷ (md, xd) ∷ (me, xe) ∷ []) → r ≡ encode_of n a b c d e
   unfolding encode_of
@@ -156,9 +157,9 @@ module _ {s : Shapes} {ma mb mc md me : ℕ} (ka : ma ≡ size_of s.a) (kb : mb 
       rw (ka, kb, kc, kd, ke, la, lb, lc, ld, le) at q
       ∙ ap (λ (t : Shapes). make n (five t a b c d e)) (k ∙ ap shapes_of g)
       ∙ ap (make n) (five-is a b c d e (form_at n))
-      ∙ sym (ap (λ (x : Bool). cond x (make n (fields_from (widths (form_at n)) (a ∷ b ∷ c ∷ d ∷ e ∷ []))) Made.Refused) (lt-ltb n 77 (omega arith)))
+      ∙ sym (ap (λ (x : Bool). cond x (make n (fields_from (widths (form_at n)) (a ∷ b ∷ c ∷ d ∷ e ∷ []))) None) (lt-ltb n 77 (omega arith)))
 
-pub encode-past : (n a b c d e : ℕ) → 76 < n → Made.Refused ≡ encode_of n a b c d e
+pub encode-past : (n a b c d e : ℕ) → 76 < n → None ≡ encode_of n a b c d e
 unfolding encode_of
 encode-past n a b c d e h =
-    sym (ap (λ (x : Bool). cond x (make n (fields_from (widths (form_at n)) (a ∷ b ∷ c ∷ d ∷ e ∷ []))) Made.Refused) (le-ltb n 77 (omega arith)))
+    sym (ap (λ (x : Bool). cond x (make n (fields_from (widths (form_at n)) (a ∷ b ∷ c ∷ d ∷ e ∷ []))) None) (le-ltb n 77 (omega arith)))

@@ -1,4 +1,5 @@
 -- A word that decodes, taken apart into numbers, is made of them again; and what is made of numbers decodes to them.
+use Rattle.std.specs.Prelude.{Option, Some, None}
 use mathlib.Core.Path.{◌≡◌, refl, sym, ap, subst, ◌∙◌}
 use mathlib.Core.Bool.{Bool, true, ◌&&◌, cond}
 use mathlib.Core.List.{List, [], ◌∷◌}
@@ -18,14 +19,12 @@ use Rattle.insns.specs.Fields.{Width, bits, Operand, Operands, Field, bits_in, f
 use Rattle.insns.specs.Bits.{twos}
 use Rattle.insns.specs.Insns.{form_at, widths, form_of, operands_of, fields_of, made_of}
 use Rattle.insns.specs.Opcodes.{op_of}
-use Rattle.insns.specs.declared.Made.{Made}
 use Rattle.insns.specs.declared.Insn.{Insn}
 use Rattle.insns.specs.declared.op.Form.{Form}
 use Rattle.insns.specs.declared.op.Op.{Op}
 use Rattle.insns.proofs.bits.Sign.{back}
 use Rattle.insns.proofs.Table.{and-true, form-op, op-form, past}
 use Rattle.decode.specs.Decode.{op_from, decode_of}
-use Rattle.decode.specs.declared.Decoded.{Decoded}
 use Rattle.decode.proofs.Sign.{signed-mag}
 use Rattle.decode.proofs.RoundTrip.{head-fits, in_halves, signed-twos, raw-fits, op-again, from-op, made-fits, made-decode, decode-made}
 use Rattle.decode.proofs.Facts.{decoded-fits}
@@ -102,19 +101,19 @@ five-at qs l (suc (suc (suc (suc zero)))) = refl
 five-at qs l (suc (suc (suc (suc (suc k))))) = sym (get_or-eq_default qs 0 (let q : length qs ≤ suc (suc (suc (suc (suc k)))) = omega arith in q))
 
 -- an instruction's opcode is below 77: past it no form makes an instruction
-unknown : (f : Form) → f ≡ Form.Unknown → (vs : Operands (widths f)) → op_from f vs ≡ Decoded.Bad
-unknown f e = subst (λ (g : Form). (vs : Operands (widths g)) → op_from g vs ≡ Decoded.Bad) (sym e) (λ vs. refl)
+unknown : (f : Form) → f ≡ Form.Unknown → (vs : Operands (widths f)) → op_from f vs ≡ None
+unknown f e = subst (λ (g : Form). (vs : Operands (widths g)) → op_from g vs ≡ None) (sym e) (λ vs. refl)
 
 known : (i : Op) → op_of (form_of i) < 77
 known i = elim (dec_lt (op_of (form_of i)) 77) [
   | yes l ↦ l
   | no l ↦ (
       let f : form_of i ≡ Form.Unknown = sym (form-op (form_of i)).0 ∙ past (op_of (form_of i)) (let q : 77 ≤ op_of (form_of i) = omega arith in q) in
-      let bad : Decoded.Is i ≡ Decoded.Bad = sym (op-again i) ∙ unknown (form_of i) f (operands_of i) in
+      let bad : Some i ≡ None = sym (op-again i) ∙ unknown (form_of i) f (operands_of i) in
       absurd (let z : ◌≡◌ {A = ℕ} 0 1 = cc in let r : ⊥ = omega arith in r))
 ]
 
-abbrev pub encoded : PlainOp → Made
+abbrev pub encoded : PlainOp → Option Insn
 encoded p = encode_of p.opcode p.a p.b p.c p.d p.e
 
 -- the numbers of an instruction whose operands fit make the instruction's word
@@ -127,12 +126,12 @@ again i h =
     let few = at-most-five (form_of i) in
     let short : length qs ≤ 5 = omega (arith, length-patterns ws (operands_of i), few.0) in
     let r = fill ws (operands_of i) (five qs) few.0 few.1 (five-at qs short) h in
-    ap (λ (b : Bool). cond b (make n (fields_from (widths (form_at n)) (five qs))) Made.Refused) (lt-ltb n 77 (known i))
+    ap (λ (b : Bool). cond b (make n (fields_from (widths (form_at n)) (five qs))) None) (lt-ltb n 77 (known i))
     ∙ ap (λ (f : Form). make n (fields_from (widths f) (five qs))) (form-op (form_of i)).0
     ∙ make_same n (fields_from ws (five qs)) (fields_of i) (r.0 ∙ sym h) r.1
 
 -- encode (decode w) = w, for every word that decodes
-pub encode-decode : (w : ℕ) (i : Op) → decode_of w ≡ Decoded.Is i → encoded (plain_op i) ≡ Made.Fits (record { bits = w })
+pub encode-decode : (w : ℕ) (i : Op) → decode_of w ≡ Some i → encoded (plain_op i) ≡ Some (record { bits = w })
 encode-decode w i e = again i (decoded-fits w i e) ∙ made-decode w i e
 
 -- ---- and back: what encodes decodes to the numbers it was made of
@@ -174,11 +173,11 @@ taken_at (w ∷ ws) (p ∷ ps) wide l f zero = pattern-kept w p wide.0
 taken_at (w ∷ ws) (p ∷ ps) wide l f (suc k) =
     taken_at ws ps wide.1 (let q : length ws ≤ length ps = omega arith in q) (head-fits (2 ^ bits w) (bits_in w (given w p)) (fields_from ws ps) f).1 k
 
-clash : {A : Type 0} {i : Op} → Decoded.Is i ≡ Decoded.Bad → A
+clash : {A : Type 0} {i : Op} → Some i ≡ None → A
 clash e = absurd (let z : ◌≡◌ {A = ℕ} 0 1 = cc in let r : ⊥ = omega arith in r)
 
 -- every form but one makes an instruction of its operands
-only-unknown : (f : Form) (vs : Operands (widths f)) → op_from f vs ≡ Decoded.Bad → op_of f ≡ 77
+only-unknown : (f : Form) (vs : Operands (widths f)) → op_from f vs ≡ None → op_of f ≡ 77
 only-unknown (Form.Bare k) vs e = clash e
 only-unknown Form.LoadImm40 vs e = clash e
 only-unknown (Form.Two k) vs e = clash e
@@ -204,7 +203,7 @@ only-unknown Form.CallMethodHost vs e = clash e
 only-unknown Form.RetImm40 vs e = clash e
 only-unknown Form.Unknown vs e = refl
 
-never : {w : Insn} → Made.Refused ≡ Made.Fits w → ⊥
+never : {w : Insn} → None ≡ Some w → ⊥
 never e = let z : ◌≡◌ {A = ℕ} 9 0 = ap made_number e in omega arith
 
 module _ (n a b c d e : ℕ) (w : Insn) (wide : Wide (a ∷ b ∷ c ∷ d ∷ e ∷ [])) (l : n < 77) where
@@ -212,8 +211,8 @@ module _ (n a b c d e : ℕ) (w : Insn) (wide : Wide (a ∷ b ∷ c ∷ d ∷ e 
   numbers = a ∷ b ∷ c ∷ d ∷ e ∷ []
 
   -- the instruction of opcode n that takes these numbers
-  one_of : make n (fields_from (widths (form_at n)) numbers) ≡ Made.Fits w → (i : Op) → op_from (form_at n) (taken (widths (form_at n)) numbers) ≡ Decoded.Is i
-      → (decode_of w.bits ≡ Decoded.Is i) × (plain_op i ≡ plain n a b c d e)
+  one_of : make n (fields_from (widths (form_at n)) numbers) ≡ Some w → (i : Op) → op_from (form_at n) (taken (widths (form_at n)) numbers) ≡ Some i
+      → (decode_of w.bits ≡ Some i) × (plain_op i ≡ plain n a b c d e)
   one_of h i is =
       let f = form_at n in
       let ws = widths f in
@@ -226,20 +225,20 @@ module _ (n a b c d e : ℕ) (w : Insn) (wide : Wide (a ∷ b ∷ c ∷ d ∷ e 
       let p : plain_op i ≡ padded (op_of f) (patterns ws vs) = from-op (λ x us. padded (op_of x) (patterns (widths x) us)) f vs is in
       (decode-made i w (m ∙ ap (λ (k : ℕ). make k (fields ws vs)) o ∙ make_same n (fields ws vs) (fields_from ws numbers) (t.0 ∙ sym g) t.1 ∙ h), p ∙ rw (o, at 0, at 1, at 2, at 3, at 4) refl)
 
-  encoded-one : make n (fields_from (widths (form_at n)) numbers) ≡ Made.Fits w → (i : Op) × (decode_of w.bits ≡ Decoded.Is i) × (plain_op i ≡ plain n a b c d e)
+  encoded-one : make n (fields_from (widths (form_at n)) numbers) ≡ Some w → (i : Op) × (decode_of w.bits ≡ Some i) × (plain_op i ≡ plain n a b c d e)
   encoded-one h = go (op_from (form_at n) (taken (widths (form_at n)) numbers)) refl
     where
-      go : (r : Decoded) → op_from (form_at n) (taken (widths (form_at n)) numbers) ≡ r → (i : Op) × (decode_of w.bits ≡ Decoded.Is i) × (plain_op i ≡ plain n a b c d e)
-      go (Decoded.Is i) is = let x = one_of h i is in (i, x.0, x.1)
-      go Decoded.Bad is = absurd (let k : n ≡ 77 = sym (op-form n l) ∙ only-unknown (form_at n) (taken (widths (form_at n)) numbers) is in let q : ⊥ = omega arith in q)
+      go : (r : Option Op) → op_from (form_at n) (taken (widths (form_at n)) numbers) ≡ r → (i : Op) × (decode_of w.bits ≡ Some i) × (plain_op i ≡ plain n a b c d e)
+      go (Some i) is = let x = one_of h i is in (i, x.0, x.1)
+      go None is = absurd (let k : n ≡ 77 = sym (op-form n l) ∙ only-unknown (form_at n) (taken (widths (form_at n)) numbers) is in let q : ⊥ = omega arith in q)
 
 -- decode (encode n a b c d e) = n a b c d e, wherever encode gives a word
-pub decode-encode : (n a b c d e : ℕ) (w : Insn) → Wide (a ∷ b ∷ c ∷ d ∷ e ∷ []) → encode_of n a b c d e ≡ Made.Fits w
-    → (i : Op) × (decode_of w.bits ≡ Decoded.Is i) × (plain_op i ≡ plain n a b c d e)
+pub decode-encode : (n a b c d e : ℕ) (w : Insn) → Wide (a ∷ b ∷ c ∷ d ∷ e ∷ []) → encode_of n a b c d e ≡ Some w
+    → (i : Op) × (decode_of w.bits ≡ Some i) × (plain_op i ≡ plain n a b c d e)
 unfolding encode_of
 decode-encode n a b c d e w wide h = elim (dec_lt n 77) [
   | yes l ↦
       encoded-one n a b c d e w wide l
-      (sym (ap (λ (x : Bool). cond x (make n (fields_from (widths (form_at n)) (a ∷ b ∷ c ∷ d ∷ e ∷ []))) Made.Refused) (lt-ltb n 77 l)) ∙ h)
+      (sym (ap (λ (x : Bool). cond x (make n (fields_from (widths (form_at n)) (a ∷ b ∷ c ∷ d ∷ e ∷ []))) None) (lt-ltb n 77 l)) ∙ h)
   | no l ↦ absurd (never (encode-past n a b c d e (let q : 76 < n = omega arith in q) ∙ h))
 ]

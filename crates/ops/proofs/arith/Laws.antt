@@ -1,4 +1,5 @@
 -- What each operator answers, as the code finds it.
+use Rattle.std.specs.Prelude.{Option, Some, None}
 use mathlib.Core.Path.{◌≡◌, refl, sym, ap, ap₂, ◌∙◌}
 use mathlib.Core.Bool.{Bool, true, false, ◌&&◌}
 use Prim.Native.Nat.{ℕ}
@@ -13,10 +14,8 @@ use Rattle.int64.specs.Int.{Outcome}
 use Rattle.int64.specs.declared.Op as IntOp
 use Rattle.float.specs.declared.Op as FloatOp
 use Rattle.float.specs.declared.Op.TheVariants as FO
-use Rattle.float.specs.declared.Whole.{Whole}
-use Rattle.float.specs.declared.Whole.TheVariants.{Is, Wide}
 use Rattle.value.specs.Value.{Datum, nil, bool, int, float}
-use Rattle.value.specs.Answer.{Result, is, fault, is_number}
+use Rattle.value.specs.Answer.{Answer, is, fault, is_number}
 use Rattle.value.specs.Seen.{shown, as_number, counts}
 use Rattle.value.specs.declared.answer.Number.{Number}
 use Rattle.value.specs.declared.answer.Number.TheVariants as N
@@ -34,7 +33,7 @@ module _ (f : FloatOp.Op) (a b : Number) {t : Bool} (e : t ≡ (counts a && coun
   numbers : t ≡ (is_number (shown a) && is_number (shown b))
   numbers = e ∙ ap₂ ◌&&◌ (counted a) (counted b)
 
-  pub as_floats_lem : {u v : Whole} {o : Result} → u ≡ converted (shown a) → v ≡ converted (shown b) → t ≡ true → o ≡ floats f u v → o ≡ as_floats f (shown a) (shown b)
+  pub as_floats_lem : {u v : Option ℕ} {o : Answer} → u ≡ converted (shown a) → v ≡ converted (shown b) → t ≡ true → o ≡ floats f u v → o ≡ as_floats f (shown a) (shown b)
   unfolding as_floats of_numbers
   as_floats_lem d g h k = rw (sym numbers ∙ h) (k ∙ ap₂ (floats f) d g)
 
@@ -42,16 +41,16 @@ module _ (f : FloatOp.Op) (a b : Number) {t : Bool} (e : t ≡ (counts a && coun
   unfolding as_floats of_numbers
   no_floats h = sym (rw (sym numbers ∙ h))
 
-module _ (f : FloatOp.Op) (x y : Whole) where
-  pub floats-yes : {p q r : ℕ} {o : Result} → x ≡ Is p → y ≡ Is q → r ≡ F.operate f (read p) (read q) → o ≡ is (float r) → o ≡ floats f x y
+module _ (f : FloatOp.Op) (x y : Option ℕ) where
+  pub floats-yes : {p q r : ℕ} {o : Answer} → x ≡ Some p → y ≡ Some q → r ≡ F.operate f (read p) (read q) → o ≡ is (float r) → o ≡ floats f x y
   unfolding floats
   floats-yes d e g h = rw (d, e) (h ∙ ap (λ (n : ℕ). is (float n)) g)
 
-  pub floats-right : {p : ℕ} → x ≡ Is p → y ≡ Wide → fault not_exact ≡ floats f x y
+  pub floats-right : {p : ℕ} → x ≡ Some p → y ≡ None → fault not_exact ≡ floats f x y
   unfolding floats
   floats-right d e = rw (d, e)
 
-  pub floats-left : x ≡ Wide → fault not_exact ≡ floats f x y
+  pub floats-left : x ≡ None → fault not_exact ≡ floats f x y
   unfolding floats
   floats-left d = rw d
 
@@ -78,16 +77,16 @@ module _ (how : How) (a b : Number) {w : Ints} (k : w ≡ ints_of a b) where
   unfolding arith_of whole_of shown
   ints i e f = let s = are a b (sym e ∙ k) in rw (s.0, s.1) (refl, refl)
 
-  pub arith-ints : {i : IntOp.Op} {f : FloatOp.Op} {p q : ℕ} {n : Outcome} {o : Result} → how ≡ H.Either i f → w ≡ Are p q → n ≡ I.operate i (to_z w64 p) (to_z w64 q) → o ≡ from_int n
+  pub arith-ints : {i : IntOp.Op} {f : FloatOp.Op} {p q : ℕ} {n : Outcome} {o : Answer} → how ≡ H.Either i f → w ≡ Are p q → n ≡ I.operate i (to_z w64 p) (to_z w64 q) → o ≡ from_int n
       → o ≡ operate_of how (shown a) (shown b)
   unfolding operate_of
   arith-ints {i} {f} h e d g = rw h (g ∙ ap from_int d ∙ sym (ints i e f).0)
 
-  pub arith-others : {i : IntOp.Op} {f : FloatOp.Op} {o : Result} → how ≡ H.Either i f → w ≡ Not → o ≡ as_floats f (shown a) (shown b) → o ≡ operate_of how (shown a) (shown b)
+  pub arith-others : {i : IntOp.Op} {f : FloatOp.Op} {o : Answer} → how ≡ H.Either i f → w ≡ Not → o ≡ as_floats f (shown a) (shown b) → o ≡ operate_of how (shown a) (shown b)
   unfolding operate_of
   arith-others {i} {f} h e g = rw h (g ∙ sym (not-ints i f a b (sym e ∙ k)).0)
 
-  pub whole-ints : {i : IntOp.Op} {p q : ℕ} {n : Outcome} {o : Result} → how ≡ H.Ints i → w ≡ Are p q → n ≡ I.operate i (to_z w64 p) (to_z w64 q) → o ≡ from_int n → o ≡ operate_of how (shown a) (shown b)
+  pub whole-ints : {i : IntOp.Op} {p q : ℕ} {n : Outcome} {o : Answer} → how ≡ H.Ints i → w ≡ Are p q → n ≡ I.operate i (to_z w64 p) (to_z w64 q) → o ≡ from_int n → o ≡ operate_of how (shown a) (shown b)
   unfolding operate_of
   whole-ints {i} h e d g = rw h (g ∙ ap from_int d ∙ sym (ints i e FO.Add).1)
 
@@ -95,7 +94,7 @@ module _ (how : How) (a b : Number) {w : Ints} (k : w ≡ ints_of a b) where
   unfolding operate_of
   whole-others {i} h e = rw h (sym (not-ints i FO.Add a b (sym e ∙ k)).1)
 
-pub floats-always : (how : How) (x y : Datum) {f : FloatOp.Op} {o : Result} → how ≡ H.Floats f → o ≡ as_floats f x y → o ≡ operate_of how x y
+pub floats-always : (how : How) (x y : Datum) {f : FloatOp.Op} {o : Answer} → how ≡ H.Floats f → o ≡ as_floats f x y → o ≡ operate_of how x y
 unfolding operate_of
 floats-always how x y h g = rw h g
 
@@ -146,21 +145,21 @@ operate-seen (H.Either i f) x y = arith-seen i f x y
 operate-seen (H.Floats f) x y = no_number f x y
 operate-seen (H.Ints i) x y = whole-seen i x y
 
-pub operate-by : (how : How) (x y : Datum) {u v : Datum} {o : Result} → u ≡ as_number x → v ≡ as_number y → o ≡ operate_of how u v → o ≡ operate_of how x y
+pub operate-by : (how : How) (x y : Datum) {u v : Datum} {o : Answer} → u ≡ as_number x → v ≡ as_number y → o ≡ operate_of how u v → o ≡ operate_of how x y
 operate-by how x y p q h = h ∙ ap₂ (operate_of how) p q ∙ operate-seen how x y
 
 -- ---- the conversion rule of arithmetic
 
 module _ (a : Number) where
-  pub int-converted : {p : ℕ} {w : Whole} → a ≡ N.Int p → w ≡ F.whole (to_z w64 p) → w ≡ converted (shown a)
+  pub int-converted : {p : ℕ} {w : Option ℕ} → a ≡ N.Int p → w ≡ F.whole (to_z w64 p) → w ≡ converted (shown a)
   unfolding converted shown F.whole
   int-converted d e = rw d e
 
-  pub float-converted : {p : ℕ} → a ≡ N.Float p → Is p ≡ converted (shown a)
+  pub float-converted : {p : ℕ} → a ≡ N.Float p → Some p ≡ converted (shown a)
   unfolding converted shown
   float-converted d = rw d
 
-  pub other-converted : a ≡ N.Other → Wide ≡ converted (shown a)
+  pub other-converted : a ≡ N.Other → None ≡ converted (shown a)
   unfolding converted shown
   other-converted d = rw d
 

@@ -15,7 +15,7 @@ use Rattle.float.specs.Order.{order}
 use Rattle.float.specs.Bits.{read}
 use Rattle.float.specs.Standing.{standing}
 use Rattle.value.specs.Value.{Datum, kind_of, payload_of}
-use Rattle.value.specs.Answer.{Result, fault, truth, is_number}
+use Rattle.value.specs.Answer.{Answer, fault, truth, is_number}
 use Rattle.value.specs.Seen.{shown, as_number, counts}
 use Rattle.value.specs.declared.answer.Number.{Number}
 use Rattle.value.specs.declared.answer.Number.TheVariants as N
@@ -34,21 +34,21 @@ module _ (x y : Datum) (a b : Number) (t : Bool) (p : shown a ≡ as_number x) (
   seen : t ≡ true → (shown a ≡ x) × (shown b ≡ y)
   seen h = let k = and-true (is_number x) (is_number y) (sym both ∙ h) in (p ∙ number_is x k.0, q ∙ number_is y k.1)
 
-  pub compare-yes : (c : Cmp) {o : Result} → o ≡ compare_numbers c (shown a) (shown b) → t ≡ true → o ≡ compare_of c x y
+  pub compare-yes : (c : Cmp) {o : Answer} → o ≡ compare_numbers c (shown a) (shown b) → t ≡ true → o ≡ compare_of c x y
   unfolding compare_of
   compare-yes c h k = rw (sym both ∙ k) (h ∙ ap₂ (compare_numbers c) (seen k).0 (seen k).1)
 
-  pub compare-no : (c : Cmp) {o : Result} {s : Bool} {k l m n : ℕ} → o ≡ compare_others c s → s ≡ (eqb k l && eqb m n) → k ≡ kind_of x → m ≡ payload_of x → l ≡ kind_of y → n ≡ payload_of y → t ≡ false → o ≡ compare_of c x y
+  pub compare-no : (c : Cmp) {o : Answer} {s : Bool} {k l m n : ℕ} → o ≡ compare_others c s → s ≡ (eqb k l && eqb m n) → k ≡ kind_of x → m ≡ payload_of x → l ≡ kind_of y → n ≡ payload_of y → t ≡ false → o ≡ compare_of c x y
   unfolding compare_of same
   compare-no c h d f g u v z = rw (sym both ∙ z) (h ∙ ap (compare_others c) (d ∙ rw (f, g, u, v)))
 
 -- ---- an Int with a Float
 
-pub mixed-is : (c : Cmp) (p q : ℕ) {t : Bool} {o : Result} → t ≡ holds c (standing (to_z w64 p) q) → o ≡ truth t → o ≡ mixed c (to_z w64 p) q
+pub mixed-is : (c : Cmp) (p q : ℕ) {t : Bool} {o : Answer} → t ≡ holds c (standing (to_z w64 p) q) → o ≡ truth t → o ≡ mixed c (to_z w64 p) q
 unfolding mixed
 mixed-is c p q d h = h ∙ ap truth d
 
-module _ (c : Cmp) (a b : Number) {o : Result} where
+module _ (c : Cmp) (a b : Number) {o : Answer} where
   pub compare-ints : {p q : ℕ} {t : Bool} → a ≡ N.Int p → b ≡ N.Int q → t ≡ holds c (order_z (to_z w64 p) (to_z w64 q)) → o ≡ truth t → o ≡ compare_numbers c (shown a) (shown b)
   unfolding compare_numbers shown
   compare-ints d e g h = rw (d, e) (h ∙ ap truth g)

@@ -1,4 +1,5 @@
 -- Completing a table from node 0 upward: a node's store changes no node below it, and so not what the children of a lower node cover.
+use Rattle.std.specs.Prelude.{Option, Some, None}
 use mathlib.Core.Path.{◌≡◌, refl, sym, ◌∙◌, ap}
 use mathlib.Core.Logic.{⊎_elim}
 use mathlib.Core.List.{List}
@@ -14,9 +15,6 @@ use borrow.Author.Rules.{rules}
 use Rattle.faults.proofs.Faults.{none_both}
 use Rattle.table.specs.Table.{node_count, kind_at, payload_at, first_at, depth_at, arity, children, span_at, nodes_fault, check_of}
 use Rattle.table.specs.Nodes.{Below, Shallow}
-use Rattle.table.specs.declared.Dest.{Dest}
-use Rattle.table.specs.declared.children.Span.{Span}
-use Rattle.table.specs.declared.children.Span.TheVariants.{Missing, Between}
 use Rattle.table.specs.Complete.{span_first, span_depth, complete_node, complete_below, complete_of, Completed}
 use Rattle.table.proofs.Nodes.{NodeOk, node_ok}
 
@@ -169,18 +167,18 @@ completed ws =
 node_stays : (ws : List ℕ) (base i : ℕ) → NodeOk ws base i → complete_node ws i ≡ ws
 unfolding complete_node span_first span_depth
 node_stays ws base i o =
-    let s : span_at ws i ≡ Between (first_at ws i) (depth_at ws i - 1) = o.spans in
+    let s : span_at ws i ≡ Some ((first_at ws i), (depth_at ws i - 1)) = o.spans in
     let d : depth_at ws i - 1 + 1 ≡ depth_at ws i = let h = o.deep in omega arith in
     rw (s, d, set-get_or ws (4 * i + 2) 0) (set-get_or ws (4 * i + 3) 0)
 
-below_stays : (ws : List ℕ) (base n : ℕ) → nodes_fault ws base n ≡ 0 → complete_below ws n ≡ ws
+below_stays : (ws : List ℕ) (base n : ℕ) → nodes_fault ws base n ≡ Ok tt → complete_below ws n ≡ ws
 unfolding complete_below nodes_fault
 below_stays ws base zero h = refl
 below_stays ws base (suc n) h =
     let p = none_both _ _ h in
     rw (below_stays ws base n p.0) (node_stays ws base n (node_ok ws base n p.1))
 
-pub accepted-stays : (ws : List ℕ) (params locals : ℕ) (dest : Dest) → check_of ws params locals dest ≡ 0 → complete_of ws ≡ ws
+pub accepted-stays : (ws : List ℕ) (params locals : ℕ) (dest : Option ℕ) → check_of ws params locals dest ≡ Ok tt → complete_of ws ≡ ws
 unfolding check_of
 accepted-stays ws params locals dest h =
     let p = none_both _ _ h in
@@ -223,23 +221,23 @@ pub ruleset passes = (begins, same_length, below_of, shallow-of, goes_on, ends, 
 
 -- ---- the first and depth of a span
 
-pub first-missing : {s : Span} → s ≡ Missing → 0 ≡ span_first s
+pub first-missing : {s : Option (ℕ × ℕ)} → s ≡ None → 0 ≡ span_first s
 unfolding span_first
 first-missing h = rw h
 
-pub first-between : {s : Span} {e d : ℕ} → s ≡ Between e d → e ≡ span_first s
+pub first-between : {s : Option (ℕ × ℕ)} {e d : ℕ} → s ≡ Some (e, d) → e ≡ span_first s
 unfolding span_first
 first-between h = rw h
 
-pub depth-missing : {s : Span} → s ≡ Missing → 0 ≡ span_depth s
+pub depth-missing : {s : Option (ℕ × ℕ)} → s ≡ None → 0 ≡ span_depth s
 unfolding span_depth
 depth-missing h = rw h
 
-pub depth-between : {s : Span} {e d : ℕ} → s ≡ Between e d → d + 1 ≡ span_depth s
+pub depth-between : {s : Option (ℕ × ℕ)} {e d : ℕ} → s ≡ Some (e, d) → d + 1 ≡ span_depth s
 unfolding span_depth
 depth-between h = rw h
 
-pub depth-fits : (s : Span) (e : ℕ) {d : ℕ} → s ≡ Between e d → Shallow s → Fits w64 (d + 1)
+pub depth-fits : (s : Option (ℕ × ℕ)) (e : ℕ) {d : ℕ} → s ≡ Some (e, d) → Shallow s → Fits w64 (d + 1)
 unfolding span_depth
 depth-fits s e h l = let q = l.fits in record { fits = rw h at q }
 
@@ -247,7 +245,7 @@ pub ruleset spans = (first-missing, first-between, depth-missing, depth-between,
 
 -- ---- one node
 
-module _ (ws : List ℕ) (i k n : ℕ) {s : Span} (hs : s ≡ children ws n i 0) (hn : n ≡ arity k) (hk : k ≡ kind_at ws i) where
+module _ (ws : List ℕ) (i k n : ℕ) {s : Option (ℕ × ℕ)} (hs : s ≡ children ws n i 0) (hn : n ≡ arity k) (hk : k ≡ kind_at ws i) where
   span-is : s ≡ span_at ws i
   span-is = cc
 

@@ -10,7 +10,7 @@ use Rattle.table.proofs.Rights.{loops, last-zero}
 use Rattle.table.proofs.check.nodes_fault.Given as goal
 
 abbrev pub invariant-loop-i : goal.invariant-loop-i
-invariant-loop-i l = (l.i ≤ node_count l.nodes) × (nodes_fault l.nodes l.base l.i ≡ 0) × Last l.nodes l.i l.e l.g
+invariant-loop-i l = (l.i ≤ node_count l.nodes) × (nodes_fault l.nodes l.base l.i ≡ Ok tt) × Last l.nodes l.i l.e l.g
 
 abbrev pub decreases-loop-i : goal.decreases-loop-i
 decreases-loop-i l = node_count l.nodes - l.i
