@@ -1,7 +1,8 @@
 -- Plumbing: the same machine over a list of values in place of kinds and payloads, which is what the crate `claim` reasons about.
 -- proofs/Lends shows that the machine over lent pairs does the same.
-use Rattle.std.specs.Prelude.{ℕ, zero, suc, cond, List, ltb, length, get_or, set}
+use Rattle.std.specs.Prelude.{ℕ, zero, suc, cond, List, ltb, length, get_or, set, Err}
 use Rattle.faults.specs.Numbers.{budget_spent, out_of_range}
+use Rattle.faults.specs.Faults.{none}
 use Rattle.value.specs.Value.{Datum, nil}
 use Rattle.value.specs.Answer.{Answer, is, fault}
 use Rattle.machine.specs.Step.{Next, go, put, stop, settle_of, word_effect}
@@ -19,12 +20,12 @@ pub data End : Type 0 where
 
 module _ (ws : List ℕ) (ss : List Datum) where
   unfoldable pub values_from : ℕ → ℕ → ℕ → List Datum → End
-  values_from zero s at rs = cond (ltb at (length ws)) (end (ran budget_spent s at) rs) (end (ran 0 s at) rs)
+  values_from zero s at rs = cond (ltb at (length ws)) (end (ran (Err budget_spent) s at) rs) (end (ran none s at) rs)
   values_from (suc n) s at rs =
       cond (ltb at (length ws))
       (elim (next_of ws ss at rs) [
         | go p ↦ values_from n (suc s) p rs
         | put p d v ↦ values_from n (suc s) p (set rs d v)
-        | stop e ↦ end (ran e s at) rs
+        | stop e ↦ end (ran (Err e) s at) rs
       ])
-      (end (ran 0 s at) rs)
+      (end (ran none s at) rs)
