@@ -6,7 +6,7 @@ use Rattle.value.specs.Value.{Datum, nil, bool, int, float, meaning}
 
 pub data Answer : Type 0 where
   is : Datum → Answer
-  fault : ℕ → Answer
+  fault : Fault → Answer
 
 -- what the code answers
 abbrev pub result_of : Result Value Fault → Answer

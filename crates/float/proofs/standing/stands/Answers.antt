@@ -6,5 +6,5 @@ use Rattle.float.proofs.standing.stands.Goals as goal
 pub wide_stands-requires : goal.wide_stands-requires
 wide_stands-requires c = search (standings, rules)
 
-pub returns-in-Is : goal.returns-in-Is
-returns-in-Is c = search (standings, rules)
+pub returns-in-Some : goal.returns-in-Some
+returns-in-Some c = search (standings, rules)

@@ -3,8 +3,8 @@ use Rattle.float.proofs.standing.Laws.{standings}
 use borrow.Author.Rules.{rules}
 use Rattle.float.proofs.standing.wide_stands.Goals as goal
 
-pub returns-in-Far : goal.returns-in-Far
-returns-in-Far c = search (standings, rules)
+pub returns-in-None : goal.returns-in-None
+returns-in-None c = search (standings, rules)
 
-pub returns-in-Like : goal.returns-in-Like
-returns-in-Like c = search (standings, rules)
+pub returns-in-Some : goal.returns-in-Some
+returns-in-Some c = search (standings, rules)
