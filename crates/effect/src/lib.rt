@@ -21,7 +21,7 @@ pub enum Effect {
     Write(u16, Result<Value, Fault>),
     Branch(Disp, Result<Value, Fault>),
     Next,
-    Halt(u8),
+    Halt(Fault),
 }
 
 // Registers and slots are lent as kinds and payloads; the shorter slice counts.

@@ -3,11 +3,11 @@ use Rattle.ops.proofs.arith.Laws.{answers}
 use borrow.Author.Rules.{rules}
 use Rattle.ops.proofs.arith.floats.Goals as goal
 
-pub returns-in-Is-y : goal.returns-in-Is-y
-returns-in-Is-y c = search (answers, rules)
+pub returns-in-Some-y : goal.returns-in-Some-y
+returns-in-Some-y c = search (answers, rules)
 
-pub returns-in-Wide-y : goal.returns-in-Wide-y
-returns-in-Wide-y c = search (answers, rules)
+pub returns-in-None-y : goal.returns-in-None-y
+returns-in-None-y c = search (answers, rules)
 
-pub returns-in-Wide : goal.returns-in-Wide
-returns-in-Wide c = search (answers, rules)
+pub returns-in-None : goal.returns-in-None
+returns-in-None c = search (answers, rules)

@@ -12,12 +12,12 @@ use Rattle.ops.specs.Arith.{from_int}
 use borrow.Author.Rules.{rules}
 use Rattle.ops.proofs.arith.int_answer.Goals as goal
 
-pub returns-in-Is : goal.returns-in-Is
+pub returns-in-Ok : goal.returns-in-Ok
 unfolding from_int
-returns-in-Is c =
+returns-in-Ok c =
     ap (λ (z : ℤ). is (int z)) (to_z-of_z w64 c.signed.result (record { sfits = c.signed.type_inv }) ∙ c.signed.ensures)
-    ∙ sym (ap (λ (n : Result ℕ Fault). from_int (outcome_of n)) c.in-Is.is)
+    ∙ sym (ap (λ (n : Result ℕ Fault). from_int (outcome_of n)) c.in-Ok.is)
 
-pub returns-in-Fault : goal.returns-in-Fault
+pub returns-in-Err : goal.returns-in-Err
 unfolding from_int
-returns-in-Fault c = sym (ap (λ (n : Result ℕ Fault). from_int (outcome_of n)) c.in-Fault.is)
+returns-in-Err c = sym (ap (λ (n : Result ℕ Fault). from_int (outcome_of n)) c.in-Err.is)

@@ -8,10 +8,10 @@ use Rattle.ops.specs.Not.{negate}
 use borrow.Author.Rules.{rules}
 use Rattle.ops.proofs.not.negated.Goals as goal
 
-pub returns-in-Is : goal.returns-in-Is
+pub returns-in-Ok : goal.returns-in-Ok
 unfolding negate
-returns-in-Is c = c.not.ensures ∙ sym (ap (λ (a : Result Value Fault). negate (result_of a)) c.in-Is.is)
+returns-in-Ok c = c.not.ensures ∙ sym (ap (λ (a : Result Value Fault). negate (result_of a)) c.in-Ok.is)
 
-pub returns-in-Fault : goal.returns-in-Fault
+pub returns-in-Err : goal.returns-in-Err
 unfolding negate
-returns-in-Fault c = sym (ap (λ (a : Result Value Fault). negate (result_of a)) c.in-Fault.is)
+returns-in-Err c = sym (ap (λ (a : Result Value Fault). negate (result_of a)) c.in-Err.is)
