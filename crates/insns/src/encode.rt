@@ -4,13 +4,13 @@ ghost use Rattle.insns.specs.Fields.{u, s, raw, make};
 ghost use Rattle.insns.specs.Insns.{made_of};
 ghost use Rattle.insns.specs.Opcodes.{bare_op, two_op, slot_op, three_op, shift_op, arith_op, one_op, wide_op, if_op, jump_op, jump_imm_op, call_op, by_id_op};
 
+use crate::Insn;
 use crate::bits::signed_bits;
 use crate::fields::{
     HALF_16, HALF_24, HALF_32, SIZE_6, SIZE_8, SIZE_12, SIZE_16, SIZE_24, SIZE_32, SIZE_40, make0,
     make1, make2, make3, make4, make5, raw_bits,
 };
 use crate::op::{Arith, Bare, ById, Call, Cmp, One, Op, Sense, Shift, Slot, Three, Two, Wide};
-use crate::Insn;
 
 pub fn two_word(op: u8, dst: u16, src: u16) -> Option<Insn>
     ensures { result ≡ make op (u 16 dst ∷ u 16 src ∷ []) }
@@ -162,7 +162,13 @@ pub(crate) fn by_id_word(op: u8, fun: u32, start: u16, argc: u8) -> Option<Insn>
     )
 }
 
-pub(crate) fn call_method_host_word(op: u8, start: u16, argc: u8, tag: u8, cache: u32) -> Option<Insn>
+pub(crate) fn call_method_host_word(
+    op: u8,
+    start: u16,
+    argc: u8,
+    tag: u8,
+    cache: u32,
+) -> Option<Insn>
     ensures { result ≡ make op (u 16 start ∷ u 8 argc ∷ u 8 tag ∷ u 24 cache ∷ []) }
 {
     make4(

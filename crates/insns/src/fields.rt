@@ -4,9 +4,9 @@
 ghost use Rattle.std.specs.Prelude.{◌≡◌, [], ◌∷◌, ◌*◌, ◌≤◌, ◌^◌};
 ghost use Rattle.insns.specs.Fields.{make, raw_bits};
 
+use crate::Insn;
 use crate::bits::{is_raw, signed_bits};
 use crate::op::Imm40;
-use crate::Insn;
 
 // The opcode is the low byte: what stands above it is worth so many.
 pub const SIZE_OPCODE: u64 = 1 << 8;

@@ -16,6 +16,7 @@ ghost use Rattle.insns.specs.declared.op.Call.{Call};
 ghost use Rattle.insns.specs.declared.op.ById.{ById};
 ghost use Rattle.insns.specs.declared.op.Op.{Op};
 
+use crate::Insn;
 use crate::encode::{
     bit_and_mask_word, by_id_word, call_host_word, call_method_host_word, call_word, clos_get_word,
     clos_new_word, clos_set_word, encode, one_word, rshift_mask_word, shift_word, slot_word,
@@ -23,7 +24,6 @@ use crate::encode::{
 };
 use crate::fields::make0;
 use crate::op::{Arith, Cmp, Disp, Imm16, Imm40, Op, Sense};
-use crate::Insn;
 
 impl Insn {
     pub const PANIC: u8 = 0;

@@ -23,7 +23,7 @@ pub fn number_of(made: Option<Insn>) -> u8
     ensures { result ≡ made_number made }
 {
     match made {
-        Some(_) => faults::NONE,
-        None => Fault::NoFit,
+        Some(_) => 0,
+        None => Fault::NoFit.number(),
     }
 }

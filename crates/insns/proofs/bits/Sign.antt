@@ -1,17 +1,16 @@
 -- A signed number as the machine holds it, its magnitude, and its bits in a field.
-use mathlib.Core.Path.{◌≡◌, refl, sym, ap, subst, ◌∙◌}
+use mathlib.Core.Path.{◌≡◌, sym, ap, subst, ◌∙◌}
 use mathlib.Core.Bool.{Bool, true, false}
-use Prim.Native.Nat.{ℕ, suc, ◌+◌, ◌*◌, ◌-◌, ◌≤◌, ◌<◌, ◌^◌}
+use Prim.Native.Nat.{ℕ, suc, ◌*◌, ◌-◌, ◌≤◌, ◌<◌, ◌^◌}
 use native.Mathlib.Omega.{arith}
-use borrow.Author.Tests.{le-ltb, lt-ltb, ltb-true, ltb-false}
-use lib.Dec.{T, ltb, leb}
+use borrow.Author.Tests.{le-ltb, lt-ltb, ltb-true}
+use lib.Dec.{T, leb}
 use lib.IntN.{ℤ, pos, negsuc}
 use lib.Signed.{mag, lt_z}
 use mir.Syntax.{Width, w64}
 use mir.Val.{SFits, hbits, to_z, of_z}
 use mir.Facts.{to_z-of_z, sfits_widen}
-use mir.ValLaws.{to_z_pos, to_z-neg}
-use native.Mathlib.Nat.{lt_of_lt_of_le}
+use mir.ValLaws.{to_z_pos}
 use Rattle.insns.specs.Bits.{twos}
 
 -- the test `z < 0`, as a branch leaves it

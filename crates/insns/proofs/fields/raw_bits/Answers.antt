@@ -1,10 +1,9 @@
 -- `fields::raw_bits` meets its contract.
 use mathlib.Core.Path.{◌≡◌, sym, ap, ◌∙◌}
-use mathlib.Core.Bool.{true, false}
 use borrow.Author.Rules.{rules}
 use mir.Syntax.{w64}
 use mir.Val.{to_z, of_z}
-use Rattle.insns.specs.Bits.{twos, is_raw}
+use Rattle.insns.specs.Bits.{twos}
 use Rattle.insns.specs.Fields.{raw_bits}
 use Rattle.insns.proofs.fields.raw_bits.Goals as goal
 
