@@ -7,6 +7,7 @@ use lib.Dec.{ltb, leb}
 use lib.IntN.{ℤ, pos, negsuc, ◌+ℤ◌}
 use borrow.Author.Tests.{ltb-true}
 use Rattle.faults.specs.Numbers.{wrong_kind, out_of_range}
+use Rattle.faults.specs.declared.Fault.{Fault}
 use Rattle.value.specs.Value.{Datum, nil, bool, int, float}
 use Rattle.value.specs.Answer.{Answer, is, fault}
 use Rattle.effect.specs.Effect.{Effect, write, branch, next, halt}

@@ -7,6 +7,7 @@ use lib.Dec.{ltb}
 use lib.ListN.{length, get_or, set}
 use lib.Seq.{get_or-set_other}
 use borrow.Author.Tests.{lt-ltb}
+use Rattle.faults.specs.declared.Fault.{Fault}
 use Rattle.value.specs.Value.{kind_of, payload_of}
 use Rattle.value.specs.Answer.{Answer, is}
 use Rattle.effect.specs.Effect.{write, size, held}
@@ -29,7 +30,7 @@ module _ (ws sks sps ks ps : List ℕ) (n s at : ℕ) (h : at < length ws) {ks' 
   step-then-run e = rw (lt-ltb at (length ws) h, e)
 
   -- a stopping step is not counted and writes nothing
-  pub step-then-stop : {e : Fault} → step_of ws sks sps at ks ps ≡ after (Err e) ks' ps' → run_from ws sks sps (suc n) s at ks ps ≡ out (ran e s at) ks ps
+  pub step-then-stop : {e : Fault} → step_of ws sks sps at ks ps ≡ after (Err e) ks' ps' → run_from ws sks sps (suc n) s at ks ps ≡ out (ran (Err e) s at) ks ps
   unfolding run_from
   step-then-stop {e} q = let k = stop-keeps ws sks sps ks ps at e q in rw (lt-ltb at (length ws) h, q, k.0, k.1)
 
@@ -65,7 +66,7 @@ onward (out q ks'' ps'') k h = record { keeps = record { kind = h.keeps.kind ∙
 module _ (ws sks sps : List ℕ) (r : ℕ) (free : Spares ws r) where
   module _ (n s at : ℕ) (ks ps : List ℕ) (again : (p : ℕ) (ks ps : List ℕ) → Keeps r ks ps (run_from ws sks sps n (suc s) p ks ps)) where
     turn : (x : Next) → Elsewhere r x → Keeps r ks ps
-        (elim (lent ks ps x) [ after q ks' ps' ↦ elim q [ Ok p ↦ run_from ws sks sps n (suc s) p ks' ps' | Err e ↦ out (ran e s at) ks' ps' ] ])
+        (elim (lent ks ps x) [ after q ks' ps' ↦ elim q [ Ok p ↦ run_from ws sks sps n (suc s) p ks' ps' | Err e ↦ out (ran (Err e) s at) ks' ps' ] ])
     turn (go p) h = again p ks ps
     turn (put p d v) h =
         onward (run_from ws sks sps n (suc s) p (set ks d (kind_of v)) (set ps d (payload_of v)))

@@ -168,7 +168,7 @@ module _ (reg slot : ℕ → Answer) (w : ℕ) {d : Option Op} (e : d ≡ decode
 
 -- ---- a stopping step writes nothing
 
-pub stop-keeps : (ws sks sps ks ps : List ℕ) (at n : ℕ) {ks' ps' : List ℕ} → step_of ws sks sps at ks ps ≡ after (Err n) ks' ps' → (ks' ≡ ks) × (ps' ≡ ps)
+pub stop-keeps : (ws sks sps ks ps : List ℕ) (at : ℕ) (n : Fault) {ks' ps' : List ℕ} → step_of ws sks sps at ks ps ≡ after (Err n) ks' ps' → (ks' ≡ ks) × (ps' ≡ ps)
 unfolding step_of
 stop-keeps ws sks sps ks ps at n {ks'} {ps'} e = by (settle_of (length ws) (size ks ps) at (word_effect (held ks ps) (held sks sps) (get_or ws at 0))) e
   where

@@ -21,5 +21,5 @@ returns-in-Float c = search (steps, rules)
 pub returns-in-Nan : goal.returns-in-Nan
 returns-in-Nan c = search (steps, rules)
 
-pub returns-in-Fault : goal.returns-in-Fault
-returns-in-Fault c = search (steps, rules)
+pub returns-in-Err : goal.returns-in-Err
+returns-in-Err c = search (steps, rules)

@@ -6,8 +6,8 @@ use Rattle.machine.proofs.step.put.Goals as goal
 pub returns-then-room-d : goal.returns-then-room-d
 returns-then-room-d c = search (steps, rules)
 
-pub returns-in-Is : goal.returns-in-Is
-returns-in-Is c = search (steps, rules)
+pub returns-in-Ok : goal.returns-in-Ok
+returns-in-Ok c = search (steps, rules)
 
-pub returns-in-Fault : goal.returns-in-Fault
-returns-in-Fault c = search (steps, rules)
+pub returns-in-Err : goal.returns-in-Err
+returns-in-Err c = search (steps, rules)
