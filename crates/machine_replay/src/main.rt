@@ -73,7 +73,7 @@ fn answer<W: Write>(
         slot_kinds,
         slot_payloads,
     );
-    replay_io::write_word(output, r.number as u64)?;
+    replay_io::write_word(output, faults::number_of(r.end) as u64)?;
     replay_io::write_word(output, r.steps)?;
     replay_io::write_word(output, r.position as u64)?;
     replay_io::write_bytes(output, kinds)?;

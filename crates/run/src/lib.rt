@@ -7,7 +7,7 @@ ghost use Rattle.machine.specs.Step.{after, step_of};
 ghost use Rattle.machine.specs.Run.{out, run_from, run_of, run_part_of};
 
 use faults::Fault;
-use fast::step::{NOT_TAKEN, quick_step};
+use fast::step::quick_step;
 use machine::run::Ran;
 use machine::step::step;
 use value::pairs::all_well;
@@ -47,7 +47,7 @@ fn next(
     ensures { after result kinds.new payloads.new
         ≡ step_of words.now slot_kinds.now slot_payloads.now at kinds.old payloads.old }
 {
-    let p = quick_step(
+    let Some(p) = quick_step(
         words,
         at,
         room,
@@ -56,10 +56,9 @@ fn next(
         slots,
         slot_kinds,
         slot_payloads,
-    );
-    if p == NOT_TAKEN {
+    ) else {
         return step(words, at, kinds, payloads, slot_kinds, slot_payloads);
-    }
+    };
     Ok(p)
 }
 
@@ -84,7 +83,7 @@ fn run_from(
     while at < words.len() {
         if steps == budget {
             return Ran {
-                number: Fault::BudgetSpent,
+                end: Err(Fault::BudgetSpent),
                 steps: steps,
                 position: at,
             };
@@ -106,7 +105,7 @@ fn run_from(
             }
             Err(n) => {
                 return Ran {
-                    number: n,
+                    end: Err(n),
                     steps: before,
                     position: at,
                 };
@@ -114,7 +113,7 @@ fn run_from(
         }
     }
     Ran {
-        number: faults::NONE,
+        end: Ok(()),
         steps: steps,
         position: at,
     }
@@ -136,21 +135,21 @@ pub fn run(
 {
     if words.len() < start {
         return Ran {
-            number: Fault::OutOfRange,
+            end: Err(Fault::OutOfRange),
             steps: 0,
             position: start,
         };
     }
     if !all_well(kinds, payloads) {
         return Ran {
-            number: Fault::IllFormed,
+            end: Err(Fault::IllFormed),
             steps: 0,
             position: 0,
         };
     }
     if !all_well(slot_kinds, slot_payloads) {
         return Ran {
-            number: Fault::IllFormed,
+            end: Err(Fault::IllFormed),
             steps: 0,
             position: 0,
         };
@@ -184,14 +183,14 @@ pub fn run_part(
 {
     if end < entry {
         return Ran {
-            number: Fault::OutOfRange,
+            end: Err(Fault::OutOfRange),
             steps: 0,
             position: entry,
         };
     }
     if store.len() < end {
         return Ran {
-            number: Fault::OutOfRange,
+            end: Err(Fault::OutOfRange),
             steps: 0,
             position: entry,
         };

@@ -3,8 +3,8 @@ use borrow.Author.Rules.{rules}
 use Rattle.run.proofs.NextLaws.{nexts}
 use Rattle.run.proofs.next.Goals as goal
 
-pub returns-then-p : goal.returns-then-p
-returns-then-p c = search (nexts, rules)
+pub returns-in_default : goal.returns-in_default
+returns-in_default c = search (nexts, rules)
 
 pub returns : goal.returns
 returns c = search (nexts, rules)

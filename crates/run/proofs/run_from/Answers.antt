@@ -43,14 +43,14 @@ loop-at-preserved c = search (turns, rules)
 pub enum_known-n : goal.enum_known-n
 enum_known-n c = search (turns, rules)
 
-pub shape_of-kinds-in-Stopped : goal.shape_of-kinds-in-Stopped
-shape_of-kinds-in-Stopped c = search (turns, rules)
+pub shape_of-kinds-in-Err : goal.shape_of-kinds-in-Err
+shape_of-kinds-in-Err c = search (turns, rules)
 
-pub shape_of-payloads-in-Stopped : goal.shape_of-payloads-in-Stopped
-shape_of-payloads-in-Stopped c = search (turns, rules)
+pub shape_of-payloads-in-Err : goal.shape_of-payloads-in-Err
+shape_of-payloads-in-Err c = search (turns, rules)
 
-pub returns-in-Stopped : goal.returns-in-Stopped
-returns-in-Stopped c = search (turns, rules)
+pub returns-in-Err : goal.returns-in-Err
+returns-in-Err c = search (turns, rules)
 
 pub shape_of-kinds : goal.shape_of-kinds
 shape_of-kinds c = search (turns, rules)
