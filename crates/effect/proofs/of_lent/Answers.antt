@@ -2,8 +2,8 @@
 use borrow.Author.Rules.{rules}
 use Rattle.effect.proofs.of_lent.Goals as goal
 
-pub returns-in-Well : goal.returns-in-Well
-returns-in-Well c = cc
+pub returns-in-Some : goal.returns-in-Some
+returns-in-Some c = cc
 
-pub returns-in-Ill : goal.returns-in-Ill
-returns-in-Ill c = cc
+pub returns-in-None : goal.returns-in-None
+returns-in-None c = cc

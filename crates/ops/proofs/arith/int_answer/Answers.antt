@@ -1,5 +1,5 @@
 -- `int_answer` meets its contract: the number of a pattern is the Int.
-use Rattle.std.specs.Prelude.{Result}
+use Rattle.std.specs.Prelude.{ℕ, Result}
 use Rattle.faults.specs.declared.Fault.{Fault}
 use mathlib.Core.Path.{sym, ap, ◌∙◌}
 use lib.IntN.{ℤ}
