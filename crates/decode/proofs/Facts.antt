@@ -2,7 +2,7 @@
 use Rattle.std.specs.Prelude.{Some, None}
 use mathlib.Core.Path.{◌≡◌, refl, sym, ap, subst, ◌∙◌}
 use mathlib.Core.Bool.{Bool, true, false, cond}
-use mathlib.Core.List.{List, [], ◌∷◌}
+use mathlib.Core.List.{[], ◌∷◌}
 use Prim.Native.Nat.{ℕ, suc, ◌+◌, ◌*◌, ◌-◌, ◌^◌, ◌<◌}
 use native.Mathlib.Omega.{arith}
 use borrow.Author.Tests.{ltb-true}
@@ -13,8 +13,6 @@ use Rattle.insns.specs.Fields.{raw, pack, all_fit, word_if, raw_bits}
 use Rattle.insns.specs.Bits.{twos, is_raw}
 use Rattle.insns.specs.Insns.{form_of, fields_of, made_of}
 use Rattle.insns.specs.Opcodes.{op_of}
-use Rattle.insns.specs.declared.Insn.{Insn}
-use Rattle.insns.specs.declared.op.Disp.{Disp}
 use Rattle.insns.specs.declared.op.Imm40.{Imm40}
 use Rattle.insns.specs.declared.op.Op.{Op}
 use Rattle.decode.specs.Decode.{decode_of}

@@ -1,15 +1,15 @@
 -- The bits of a field read as a signed number, and as the machine holds it.
 use mathlib.Core.Path.{◌≡◌, refl, sym, ap, subst, ◌∙◌}
 use mathlib.Core.Bool.{Bool, true, false, cond}
-use Prim.Native.Nat.{ℕ, suc, ◌+◌, ◌*◌, ◌-◌, ◌≤◌, ◌<◌, ◌^◌}
+use Prim.Native.Nat.{ℕ, suc, ◌*◌, ◌-◌, ◌≤◌, ◌<◌, ◌^◌}
 use native.Mathlib.Omega.{arith}
 use borrow.Author.Tests.{le-ltb, lt-ltb, ltb-true, ltb-false}
-use lib.Dec.{T, ltb, leb}
+use lib.Dec.{ltb}
 use lib.IntN.{ℤ, pos, negsuc}
-use lib.Signed.{mag, lt_z}
+use lib.Signed.{mag}
 use mir.Syntax.{Width, w64}
 use mir.Val.{SFits, hbits, to_z, of_z}
-use mir.Facts.{to_z-of_z, sfits_widen}
+use mir.Facts.{to_z-of_z}
 use mir.ValLaws.{to_z_pos, to_z-neg}
 use native.Mathlib.Nat.{lt_of_lt_of_le}
 use Rattle.decode.specs.Decode.{signed}

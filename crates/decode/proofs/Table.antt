@@ -20,7 +20,7 @@ pub no-form : (x : ℕ) → None ≡ decode_as Form.Unknown x
 unfolding whole
 no-form x = go (eqb x 0)
   where
-    go : (b : Bool) → None ≡ cond b None None
+    go : (b : Bool) → ◌≡◌ {A = Option Op} None (cond b None None)
     go true = refl
     go false = refl
 

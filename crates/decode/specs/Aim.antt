@@ -1,8 +1,9 @@
 -- Plumbing: how the code aims a word. It tests the displacement at 32 bits first, then changes the displacement's field of the word as a number, without
 -- taking the word apart. That this is what `aim_word` of specs/Patch says is shown in proofs/patch/Field.
 use Rattle.faults.specs.declared.Fault.{Fault}
-use Rattle.std.specs.Prelude.{ℕ, ◌+◌, ◌*◌, ◌≤◌, ◌<◌, ◌^◌, Bool, true, false, cond, ltb, Option, Some, None, Result, Ok, Err}
+use Rattle.std.specs.Prelude.{ℕ, ◌+◌, ◌*◌, ◌≤◌, ◌<◌, ◌^◌, cond, ltb, Option, Some, None, Result, Ok, Err}
 use Rattle.std.specs.Int.Signed.{mag}
+use Rattle.faults.specs.Numbers.{undecoded, not_branch, too_far}
 use Rattle.insns.specs.Bits.{twos}
 use Rattle.insns.specs.declared.op.Disp.{Disp}
 use Rattle.insns.specs.declared.op.Op.{Op}
@@ -16,7 +17,7 @@ reach_of at target = cond (ltb (mag (difference at target)) (2 ^ 31)) (Some (rec
 -- a word aimed by a displacement, or one that is too far for every branch
 abbrev pub unreached : Option Op → Result ℕ Fault
 unreached (Some i) = cond (is_branch i) (Err too_far) (Err not_branch)
-unreached None = (Err undecoded)
+unreached None = Err undecoded
 
 abbrev pub aimed_by : Option Op → Option Disp → Result ℕ Fault
 aimed_by d (Some disp) = aimed_decoded d disp.by
@@ -24,8 +25,8 @@ aimed_by d None = unreached d
 
 -- a word that is no branch
 abbrev pub unaimed : Option Op → Result ℕ Fault
-unaimed (Some i) = (Err not_branch)
-unaimed None = (Err undecoded)
+unaimed (Some i) = Err not_branch
+unaimed None = Err undecoded
 
 -- the bits below a field of 2 * half numbers, of which one is worth `place` in the word
 pub record Place (low place half : ℕ) : Type 0 where
@@ -36,7 +37,7 @@ pub record Place (low place half : ℕ) : Type 0 where
 -- the bits below the field, and in it the displacement
 unfoldable pub aim_field : ℕ → ℕ → ℕ → Option Disp → Result ℕ Fault
 aim_field low place half (Some disp) = cond (ltb (twos half disp.by) (2 * half)) (Ok (low + place * twos half disp.by)) (Err too_far)
-aim_field low place half None = (Err too_far)
+aim_field low place half None = Err too_far
 
 -- a branch with a displacement
 abbrev pub branch_by : Branch → Disp → Op

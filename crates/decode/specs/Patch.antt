@@ -3,12 +3,12 @@
 use Rattle.faults.specs.declared.Fault.{Fault}
 use Rattle.insns.specs.declared.Insn.{Insn}
 use Rattle.std.specs.Prelude.{ℕ, Bool, true, false, ◌||◌, cond, List, [], ◌∷◌, ltb, ℤ, pos, negsuc, ◌+ℤ◌, length, get_or, set, Option, Some, None, Result, Ok, Err}
-use Rattle.faults.specs.Numbers.{no_word, not_branch, too_far}
+use Rattle.faults.specs.Numbers.{no_word, undecoded, not_branch, too_far}
 use Rattle.insns.specs.Fields.{Width, Operand, Operands, ◌▸◌, fields, make}
 use Rattle.insns.specs.Insns.{widths, form_of, operands_of}
 use Rattle.insns.specs.Opcodes.{op_of}
 use Rattle.insns.specs.declared.op.Op.{Op}
-use Rattle.decode.specs.Decode.{decode_of, decoded_number}
+use Rattle.decode.specs.Decode.{decode_of}
 
 -- target minus branch position minus one: `negsuc at` is -(at + 1)
 abbrev pub difference : ℕ → ℕ → ℤ
@@ -45,12 +45,12 @@ made_with i z = make (op_of (form_of i)) (fields (widths (form_of i)) (with_disp
 -- the field does not hold the displacement (8, where a constructor gives 9)
 abbrev pub aimed_made : Option Insn → Result ℕ Fault
 aimed_made (Some w) = Ok w.bits
-aimed_made None = (Err too_far)
+aimed_made None = Err too_far
 
 -- the word does not decode (10); it is no branch (11)
 abbrev pub aimed_decoded : Option Op → ℤ → Result ℕ Fault
 aimed_decoded (Some i) z = cond (is_branch i) (aimed_made (made_with i z)) (Err not_branch)
-aimed_decoded None z = (Err undecoded)
+aimed_decoded None z = Err undecoded
 
 -- the word w, which stands at a position, aimed at a target
 unfoldable pub aim_word : ℕ → ℕ → ℕ → Result ℕ Fault
@@ -62,32 +62,19 @@ pub record Patching : Type 0 where
   pub words : List ℕ
 
 abbrev pub put_aimed : Result ℕ Fault → List ℕ → ℕ → Patching
-put_aimed (Ok w) ws at = record { answer = (Ok tt); words = set ws at w }
-put_aimed (Err undecoded) ws at = record { answer = (Err undecoded); words = ws }
-put_aimed (Err not_branch) ws at = record { answer = (Err not_branch); words = ws }
-put_aimed (Err too_far) ws at = record { answer = (Err too_far); words = ws }
+put_aimed (Ok w) ws at = record { answer = Ok tt; words = set ws at w }
+put_aimed (Err f) ws at = record { answer = Err f; words = ws }
 
 -- the word at a position aimed at a target; there is none (12)
 unfoldable pub patch_of : List ℕ → ℕ → ℕ → Patching
-patch_of ws at target = cond (ltb at (length ws)) (put_aimed (aim_word (get_or ws at 0) at target) ws at) (record { answer = (Err no_word); words = ws })
-
--- the number of each answer
-abbrev pub patched_number : Result (Unit {0}) Fault → ℕ
-patched_number (Ok tt) = 0
-patched_number (Err no_word) = no_word
-patched_number (Err undecoded) = decoded_number None
-patched_number (Err not_branch) = not_branch
-patched_number (Err too_far) = too_far
+patch_of ws at target = cond (ltb at (length ws)) (put_aimed (aim_word (get_or ws at 0) at target) ws at) (record { answer = Err no_word; words = ws })
 
 abbrev pub is_done : Result (Unit {0}) Fault → Bool
-is_done (Ok tt) = true
-is_done (Err no_word) = false
-is_done (Err undecoded) = false
-is_done (Err not_branch) = false
-is_done (Err too_far) = false
+is_done (Ok done) = true
+is_done (Err f) = false
 
--- the words at a list of positions, all aimed at one target, from the first to the last. One that fails stops it with its number: those before it
+-- the words at a list of positions, all aimed at one target, from the first to the last. One that fails stops it with its fault: those before it
 -- stay patched, it and those after it are as they were
 unfoldable pub patch_all : List ℕ → List ℕ → ℕ → Patching
-patch_all ws [] target = record { answer = (Ok tt); words = ws }
+patch_all ws [] target = record { answer = Ok tt; words = ws }
 patch_all ws (j ∷ js) target = cond (is_done (patch_of ws j target).answer) (patch_all (patch_of ws j target).words js target) (patch_of ws j target)

@@ -8,29 +8,29 @@ pub mod patch;
 ghost use Rattle.std.specs.Prelude.{◌≡◌};
 ghost use Rattle.decode.specs.Decode.{decode_of, decoded_number};
 
-use faults::Fault;
 use crate::cut::{
     bit_and_mask_of, by_id_of, call_host_of, call_method_host_of, call_of, clos_get_of,
     clos_new_of, clos_set_of, if_raw, if_whole, one_of, rshift_mask_of, shift_of, signed_of,
     slot_of, three_of, two_of, wide_of,
 };
 use crate::form::form;
+use faults::Fault;
 use insns::fields::{
     HALF_16, HALF_24, HALF_32, HALF_40, SIZE_16, SIZE_24, SIZE_32, SIZE_40, SIZE_OPCODE,
 };
 use insns::op::{Disp, Form, Imm16, Imm40, Op};
 
-// The number of an answer.
+// The number of an answer: 0 of an instruction.
 pub fn number_of(decoded: Option<Op>) -> u8
     ensures { result ≡ decoded_number decoded }
 {
     match decoded {
-        Some(_) => faults::NONE,
-        None => Fault::Undecoded,
+        Some(_) => 0,
+        None => Fault::Undecoded.number(),
     }
 }
 
-// What the word w is, or Bad (10). The forms with a signed operand are cut here, the others in `cut`.
+// What the word w is, if it decodes. The forms with a signed operand are cut here, the others in `cut`.
 pub fn decode(w: u64) -> Option<Op>
     ensures { result ≡ decode_of w }
 {

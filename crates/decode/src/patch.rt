@@ -1,11 +1,11 @@
 // Aiming a branch word at a target.
 ghost use Rattle.std.specs.Prelude.{◌≡◌, ◌%◌, ◌<◌, ◌≤◌, ◌^◌};
 ghost use Rattle.decode.specs.Decode.{decode_of};
-ghost use Rattle.decode.specs.Patch.{aim_word, patch_of, patched_number, is_done, patch_all};
+ghost use Rattle.decode.specs.Patch.{aim_word, patch_of, patch_all};
 ghost use Rattle.decode.specs.Aim.{reach_of, aimed_by, unaimed, Place, aim_field};
 
-use faults::Fault;
 use crate::decode;
+use faults::Fault;
 use insns::Insn;
 use insns::bits::{magnitude, signed_bits};
 use insns::fields::{HALF_24, HALF_32, SIZE_16, SIZE_32, SIZE_OPCODE};
@@ -28,19 +28,6 @@ pub enum Branch {
     Jump(Cmp, u16, u16),
     JumpImm(Cmp, u16, Imm16),
     Jmp,
-}
-
-// The number of an answer.
-pub fn number_of(answer: Result<(), Fault>) -> u8
-    ensures { result ≡ patched_number answer }
-{
-    match answer {
-        Ok(()) => faults::NONE,
-        Err(Fault::NoWord) => Fault::NoWord,
-        Err(Fault::Undecoded) => Fault::Undecoded,
-        Err(Fault::NotBranch) => Fault::NotBranch,
-        Err(Fault::TooFar) => Fault::TooFar,
-    }
 }
 
 // target - at - 1, if 32 bits hold it.
@@ -126,27 +113,8 @@ pub fn patch(words: &mut [u64], at: usize, target: u64) -> Result<(), Fault>
     if words.len() <= at {
         return Err(Fault::NoWord);
     }
-    match aim_word(words[at], at as u64, target) {
-        Ok(w) => {
-            words[at] = w;
-            Ok(())
-        }
-        Err(Fault::Undecoded) => Err(Fault::Undecoded),
-        Err(Fault::NotBranch) => Err(Fault::NotBranch),
-        Err(Fault::TooFar) => Err(Fault::TooFar),
-    }
-}
-
-fn is_done(answer: Result<(), Fault>) -> bool
-    ensures { result ≡ is_done answer }
-{
-    match answer {
-        Ok(()) => true,
-        Err(Fault::NoWord) => false,
-        Err(Fault::Undecoded) => false,
-        Err(Fault::NotBranch) => false,
-        Err(Fault::TooFar) => false,
-    }
+    words[at] = aim_word(words[at], at as u64, target)?;
+    Ok(())
 }
 
 // Aims the branches at a list of positions, from the first to the last, at one target. One that fails stops it: those before it stay patched, it
@@ -155,13 +123,8 @@ pub fn patch_jumps(words: &mut [u64], jumps: &[u64], target: u64) -> Result<(), 
     ensures { (result ≡ (patch_all words.old jumps.now target).answer)
         × (words.new ≡ (patch_all words.old jumps.now target).words) }
 {
-    let mut i = 0;
-    while i < jumps.len() {
-        let answer = patch(words, jumps[i] as usize, target);
-        if !is_done(answer) {
-            return answer;
-        }
-        i = i + 1;
+    for &jump in jumps {
+        patch(words, jump as usize, target)?;
     }
     Ok(())
 }

@@ -4,7 +4,6 @@ use mir.Syntax.{w16, w32, w64}
 use Rattle.insns.proofs.bits.Sign.{back}
 use Rattle.decode.proofs.Sign.{narrows, narrowed}
 use Rattle.decode.proofs.Table.{arm, no-form}
-use borrow.Author.Rules.{rules}
 use Rattle.decode.proofs.decode.Goals as goal
 
 pub overflow_cast-imm : goal.overflow_cast-imm

@@ -1,16 +1,17 @@
 -- Displacements, and words patched: one of a list, and one after the other.
 use Rattle.std.specs.Prelude.{Option, Some, None, Result, Ok, Err}
+use Rattle.faults.specs.Numbers.{no_word}
 use Rattle.faults.specs.declared.Fault.{Fault}
 use Rattle.insns.specs.declared.op.Disp.{Disp}
-use mathlib.Core.Path.{◌≡◌, refl, sym, ap, ◌∙◌}
-use mathlib.Core.Bool.{Bool, true, false, not, cond}
-use mathlib.Core.List.{List, [], ◌∷◌}
-use Prim.Native.Nat.{ℕ, zero, suc, ◌+◌, ◌-◌, ◌≤◌, ◌<◌, ◌^◌}
+use mathlib.Core.Path.{◌≡◌, sym, ap, ◌∙◌}
+use mathlib.Core.Bool.{Bool, true, false, cond}
+use mathlib.Core.List.{List}
+use Prim.Native.Nat.{ℕ, zero, suc, ◌+◌, ◌-◌, ◌≤◌, ◌<◌}
 use native.Mathlib.Omega.{arith}
 use native.Mathlib.Numerals.{add-one}
 use borrow.Author.Tests.{le-ltb, lt-ltb}
 use lib.Dec.{T, ltb, leb, leb→le}
-use lib.IntN.{ℤ, pos, negsuc, ◌+ℤ◌, ◌-ℤ◌}
+use lib.IntN.{ℤ, pos, negsuc, ◌-ℤ◌}
 use lib.ListN.{length, get_or, drop, drop_of_length-le}
 use lib.Seq.{drop-cons}
 use lib.Signed.{mag}
@@ -19,7 +20,7 @@ use mir.Val.{SFits, to_z, of_z}
 use mir.Facts.{to_z-of_z}
 use mir.ValLaws.{to_z_pos}
 use Rattle.insns.proofs.bits.Sign.{back}
-use Rattle.decode.specs.Patch.{difference, aim_word, Patching, put_aimed, patch_of, patch_all, is_done}
+use Rattle.decode.specs.Patch.{difference, aim_word, Patching, put_aimed, patch_of, patch_all}
 use Rattle.decode.specs.Aim.{reach_of}
 
 -- ---- displacements
@@ -90,9 +91,9 @@ module _ (at t : ℕ) (a : at < 2305843009213693952) (l : t < 461168601842738790
 
 -- ---- a word of a list is patched
 
-pub no_word : (ws : List ℕ) (at t : ℕ) → length ws ≤ at → record { answer = (Err no_word); words = ws } ≡ patch_of ws at t
+pub past-words : (ws : List ℕ) (at t : ℕ) → length ws ≤ at → record { answer = (Err no_word); words = ws } ≡ patch_of ws at t
 unfolding patch_of
-no_word ws at t h = ap (λ (b : Bool). cond b (put_aimed (aim_word (get_or ws at 0) at t) ws at) (record { answer = (Err no_word); words = ws })) (sym (le-ltb at (length ws) h))
+past-words ws at t h = ap (λ (b : Bool). cond b (put_aimed (aim_word (get_or ws at 0) at t) ws at) (record { answer = (Err no_word); words = ws })) (sym (le-ltb at (length ws) h))
 
 pub a_word : (ws : List ℕ) (at t : ℕ) {a b : Result ℕ Fault} → at < length ws → a ≡ aim_word (get_or ws at 0) at t → a ≡ b → put_aimed b ws at ≡ patch_of ws at t
 unfolding patch_of
@@ -104,24 +105,16 @@ both e = (ap (λ (x : Patching). x.answer) e, ap (λ (x : Patching). x.words) e)
 
 -- ---- a list of branches is patched
 
--- the branch at place i was patched, with the answer r and the words ws': what is then left to do gives what was left to do before
-module _ (ws js : List ℕ) (i t : ℕ) {r : Result (Unit {0}) Fault} {ws' : List ℕ} {b : Bool} (h : i < length js) (answered : r ≡ (patch_of ws (get_or js i 0) t).answer)
-    (left : ws' ≡ (patch_of ws (get_or js i 0) t).words) (tested : b ≡ is_done r) where
-  pub next : not b ≡ false → patch_all ws' (drop (i + 1) js) t ≡ patch_all ws (drop i js) t
+-- the branch at place i was patched, and the words ws' are left: what is then left to do gives what was left to do before
+module _ (ws js : List ℕ) (i t : ℕ) {r : Result (Unit {0}) Fault} {ws' : List ℕ} (h : i < length js) (answered : r ≡ (patch_of ws (get_or js i 0) t).answer)
+    (left : ws' ≡ (patch_of ws (get_or js i 0) t).words) where
+  pub next : {u : Unit {0}} → r ≡ Ok u → patch_all ws' (drop (i + 1) js) t ≡ patch_all ws (drop i js) t
   unfolding patch_all
-  next e = rw (drop-cons js i 0 h, ← answered, ← tested, done b e, left, add-one i)
-    where
-      done : (x : Bool) → not x ≡ false → x ≡ true
-      done true q = refl
-      done false q = sym q
+  next e = rw (drop-cons js i 0 h, ← answered, e, left, add-one i)
 
-  pub stop : not b ≡ true → record { answer = r; words = ws' } ≡ patch_all ws (drop i js) t
+  pub stop : {f : Fault} → r ≡ Err f → record { answer = Err f; words = ws' } ≡ patch_all ws (drop i js) t
   unfolding patch_all
-  stop e = rw (drop-cons js i 0 h, ← answered, ← tested, failed b e, answered, left)
-    where
-      failed : (x : Bool) → not x ≡ true → x ≡ false
-      failed true q = sym q
-      failed false q = refl
+  stop e = rw (drop-cons js i 0 h, ← answered, e, ← e, answered, left)
 
 pub end : (ws js : List ℕ) (i t : ℕ) → length js ≤ i → record { answer = (Ok tt); words = ws } ≡ patch_all ws (drop i js) t
 unfolding patch_all

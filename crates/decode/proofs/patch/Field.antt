@@ -1,6 +1,7 @@
 -- A word aimed as a number is what the definition says. The word of a branch is the number of its opcode and its other operands, and above it the
 -- displacement's field: made of the same branch with another displacement, only the field changes.
 use Rattle.std.specs.Prelude.{Option, Some, None, Result, Ok, Err}
+use Rattle.faults.specs.Numbers.{undecoded, not_branch, too_far}
 use Rattle.faults.specs.declared.Fault.{Fault}
 use mathlib.Core.Path.{◌≡◌, refl, sym, ap, subst, ◌∙◌}
 use mathlib.Core.Bool.{Bool, true, false, ◌&&◌, and-true, and_assoc, cond}
@@ -10,8 +11,8 @@ use Prim.Native.Nat.{ℕ, zero, suc, ◌+◌, ◌*◌, ◌-◌, ◌/◌, ◌%◌
 use native.Mathlib.Nat.{lt_of_lt_of_le, mul-add, mul_assoc, add_assoc, add-mul-mod_self_left, mod-eq_of_lt}
 use native.Mathlib.Omega.{arith}
 use borrow.Author.Tests.{le-ltb, lt-ltb, ltb-true, ltb-false, eq-eqb, ne_eqb}
-use lib.Dec.{T, ltb, ltb→lt}
-use lib.IntN.{ℤ, pos, negsuc}
+use lib.Dec.{ltb, ltb→lt}
+use lib.IntN.{ℤ}
 use lib.ListN.{length, get_or, take, drop}
 use lib.Seq.{get_or-take, get_or-drop}
 use lib.Signed.{mag}
@@ -50,7 +51,7 @@ module _ (low place half : ℕ) (p : Place low place half) where
   product-fits v h = record { fits = omega (arith, word_fits v h) }
 
 module _ (low place half : ℕ) {r : Option Disp} where
-  pub none : r ≡ None → (Err too_far) ≡ aim_field low place half r
+  pub none : r ≡ None → Err too_far ≡ aim_field low place half r
   unfolding aim_field
   none e = rw e
 
@@ -63,7 +64,7 @@ module _ (low place half : ℕ) {r : Option Disp} where
     unfolding aim_field
     in_field h = rw (e, ← number, lt-ltb n (2 * half) h)
 
-    pub past-field : 2 * half ≤ n → (Err too_far) ≡ aim_field low place half r
+    pub past-field : 2 * half ≤ n → Err too_far ≡ aim_field low place half r
     unfolding aim_field
     past-field h = rw (e, ← number, le-ltb n (2 * half) h)
 
@@ -134,7 +135,7 @@ joined b v = rw (mul-add 256 (pack (lows b)) (sizes (lows b) * v), mul_assoc 256
 -- the branch aimed by a displacement, or one that is too far
 abbrev aimed_reach : Branch → Option Disp → Result ℕ Fault
 aimed_reach b (Some disp) = aimed_made (made_of (branch_by b disp))
-aimed_reach b None = (Err too_far)
+aimed_reach b None = Err too_far
 
 reach-by : (b : Branch) (disp : Disp) (r : Option Disp) → aimed_by (Some (branch_by b disp)) r ≡ aimed_reach b r
 reach-by b disp (Some to) = branch_by_lem b disp to.by
@@ -216,12 +217,12 @@ whole-not : (rest : ℕ) (i : Op) → (rest ≡ 0 → ⊥) → whole rest (Some 
 unfolding whole
 whole-not rest i e = ap (λ (b : Bool). cond b (Some i) None) (ne_eqb rest 0 e)
 
-undecoded : (r : Option Disp) → (Err undecoded) ≡ aimed_by None r
-undecoded (Some disp) = refl
-undecoded None = refl
+no-op : (r : Option Disp) → Err undecoded ≡ aimed_by None r
+no-op (Some disp) = refl
+no-op None = refl
 
-bad : (w : ℕ) (r : Option Disp) → decode_of w ≡ None → (Err undecoded) ≡ aimed_by (decode_of w) r
-bad w r e = undecoded r ∙ ap (λ (d : Option Op). aimed_by d r) (sym e)
+bad : (w : ℕ) (r : Option Disp) → decode_of w ≡ None → Err undecoded ≡ aimed_by (decode_of w) r
+bad w r e = no-op r ∙ ap (λ (d : Option Op). aimed_by d r) (sym e)
 
 -- the operands of a branch, as they are read
 abbrev imm16 : ℕ → Imm16
@@ -243,7 +244,7 @@ module _ (w : ℕ) (r : Option Disp) where
   pub if-aimed : 43 ≤ w % 256 → w % 256 ≤ 44 → w / 16777216 < 4294967296 → {a : Result ℕ Fault} → a ≡ aim_field (w % 16777216) 16777216 2147483648 r → a ≡ aimed_by (decode_of w) r
   if-aimed l h n q = q ∙ ⊎_elim (λ f. known w (Branch.If Sense.Yes _) _ (if-is w Sense.Yes f n) r) (λ f. known w (Branch.If Sense.No _) _ (if-is w Sense.No f n) r) (if-form (w % 256) l h)
 
-  pub if-stray : 43 ≤ w % 256 → w % 256 ≤ 44 → 4294967296 ≤ w / 16777216 → (Err undecoded) ≡ aimed_by (decode_of w) r
+  pub if-stray : 43 ≤ w % 256 → w % 256 ≤ 44 → 4294967296 ≤ w / 16777216 → Err undecoded ≡ aimed_by (decode_of w) r
   if-stray l h n = ⊎_elim (λ f. bad w r (if-bad w Sense.Yes f n)) (λ f. bad w r (if-bad w Sense.No f n)) (if-form (w % 256) l h)
 
   compared : w < 18446744073709551616 → {f : Form} → form_at (w % 256) ≡ f → Compares f → aim_field (w % 1099511627776) 1099511627776 8388608 r ≡ aimed_by (decode_of w) r
@@ -259,7 +260,7 @@ module _ (w : ℕ) (r : Option Disp) where
   pub jmp-aimed : 64 < w % 256 → w % 256 ≤ 65 → w / 256 < 4294967296 → {a : Result ℕ Fault} → a ≡ aim_field (w % 256) 256 2147483648 r → a ≡ aimed_by (decode_of w) r
   jmp-aimed l h n q = q ∙ known w Branch.Jmp (disp_in 2147483648 (w / 256 % 4294967296)) (as-form w Form.Jmp (jmp-form l h) ∙ whole_is (w / 256 / 4294967296) _ (omega arith)) r
 
-  pub jmp-stray : 64 < w % 256 → w % 256 ≤ 65 → 4294967296 ≤ w / 256 → (Err undecoded) ≡ aimed_by (decode_of w) r
+  pub jmp-stray : 64 < w % 256 → w % 256 ≤ 65 → 4294967296 ≤ w / 256 → Err undecoded ≡ aimed_by (decode_of w) r
   jmp-stray l h n = bad w r (as-form w Form.Jmp (jmp-form l h) ∙ whole-not (w / 256 / 4294967296) _ (λ e. omega arith))
 
 -- ---- too far for 32 bits, too far for every branch
@@ -268,9 +269,9 @@ and-false : (b : Bool) → (b && false) ≡ false
 and-false true = refl
 and-false false = refl
 
-too_far : (op : ℕ) (fs : List Field) (h : ℕ) (z : ℤ) → h ≤ mag z → (Err too_far) ≡ aimed_made (make op (fs ++ ((2 * h, twos h z) ∷ [])))
+past : (op : ℕ) (fs : List Field) (h : ℕ) (z : ℤ) → h ≤ mag z → Err too_far ≡ aimed_made (make op (fs ++ ((2 * h, twos h z) ∷ [])))
 unfolding word_if
-too_far op fs h z l =
+past op fs h z l =
     let n : ltb (twos h z) (2 * h) ≡ false = ap (λ (v : ℕ). ltb v (2 * h)) (twos-far h z l) ∙ le-ltb (2 * h) (2 * h) (omega arith) in
     let f : all_fit (fs ++ ((2 * h, twos h z) ∷ [])) ≡ false = fit-end fs (2 * h) (twos h z) ∙ ap (λ (b : Bool). all_fit fs && b) n ∙ and-false (all_fit fs) in
     sym (ap (λ (b : Bool). aimed_made (cond b (Some (record { bits = op + 256 * pack (fs ++ ((2 * h, twos h z) ∷ [])) })) None)) f)
@@ -290,10 +291,10 @@ far (Op.ClosSet clos src idx) z l = refl
 far (Op.ClosGet dst idx) z l = refl
 far (Op.One k dst) z l = refl
 far (Op.Wide k dst val class) z l = refl
-far (Op.If k val disp) z l = too_far (if_op k) (u 16 val ∷ []) 2147483648 z l
-far (Op.Jump k a b disp) z l = too_far (jump_op k) (u 16 a ∷ u 16 b ∷ []) 8388608 z (omega arith)
-far (Op.JumpImm k a imm disp) z l = too_far (jump_imm_op k) (u 16 a ∷ s 16 imm.n ∷ []) 8388608 z (omega arith)
-far (Op.Jmp disp) z l = too_far 65 [] 2147483648 z l
+far (Op.If k val disp) z l = past (if_op k) (u 16 val ∷ []) 2147483648 z l
+far (Op.Jump k a b disp) z l = past (jump_op k) (u 16 a ∷ u 16 b ∷ []) 8388608 z (omega arith)
+far (Op.JumpImm k a imm disp) z l = past (jump_imm_op k) (u 16 a ∷ s 16 imm.n ∷ []) 8388608 z (omega arith)
+far (Op.Jmp disp) z l = past 65 [] 2147483648 z l
 far (Op.Call k start argc cache) z l = refl
 far (Op.CallHost host start argc) z l = refl
 far (Op.ById k fun start argc) z l = refl
@@ -370,10 +371,10 @@ no-branch (Op.CallMethodHost start argc tag cache) n = refl
 no-branch (Op.RetImm40 imm) n = refl
 
 -- what the word decodes to, as an arm of a `match` knows it
-pub not-one : (w : ℕ) {d : Option Op} {i : Op} → d ≡ decode_of w → d ≡ Some i → (Err not_branch) ≡ unaimed (decode_of w)
+pub not-one : (w : ℕ) {d : Option Op} {i : Op} → d ≡ decode_of w → d ≡ Some i → Err not_branch ≡ unaimed (decode_of w)
 not-one w q k = ap unaimed (sym k ∙ q)
 
-pub not-any : (w : ℕ) {d : Option Op} → d ≡ decode_of w → d ≡ None → (Err undecoded) ≡ unaimed (decode_of w)
+pub not-any : (w : ℕ) {d : Option Op} → d ≡ decode_of w → d ≡ None → Err undecoded ≡ unaimed (decode_of w)
 not-any w q k = ap unaimed (sym k ∙ q)
 
 pub ruleset unaimings = (not-one, not-any)

@@ -1,5 +1,4 @@
 -- `cut::if_raw` meets its contract: the test is `is_raw`, which says what the definition asks.
-use borrow.Author.Rules.{rules}
 use Rattle.decode.proofs.Table.{raw-so, raw-not}
 use Rattle.decode.proofs.cut.if_raw.Goals as goal
 

@@ -1,5 +1,4 @@
 -- `cut::signed_of` meets its contract.
-use borrow.Author.Rules.{rules}
 use Rattle.decode.proofs.Sign.{read_low, read-high}
 use Rattle.decode.proofs.cut.signed_of.Goals as goal
 

@@ -1,5 +1,4 @@
 -- `patch::aim_branch` meets its contract: each opcode's field, and what may stand above it.
-use borrow.Author.Rules.{rules}
 use Rattle.decode.proofs.patch.Field.{opcodes}
 use Rattle.decode.proofs.patch.aim_branch.Goals as goal
 

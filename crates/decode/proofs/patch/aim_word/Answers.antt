@@ -1,5 +1,4 @@
 -- `patch::aim_word` meets its contract: an opcode below or above the branches' is none.
-use borrow.Author.Rules.{rules}
 use Rattle.decode.proofs.patch.Field.{opcodes}
 use Rattle.decode.proofs.patch.aim_word.Goals as goal
 
