@@ -1,5 +1,5 @@
 -- Plumbing: the fields of a form as the code of `encode` holds them, five of them, by the table `widths` of insns.
-use Rattle.std.specs.Prelude.{ℕ, ◌*◌, ◌-◌, ◌≤◌, ◌^◌, List, [], ◌∷◌, map, get_or}
+use Rattle.std.specs.Prelude.{ℕ, ◌*◌, ◌-◌, ◌≤◌, ◌^◌, map, get_or}
 use Rattle.std.specs.Int.{w64}
 use Rattle.std.proofs.Common.{to_z}
 use Rattle.insns.specs.Bits.{twos}

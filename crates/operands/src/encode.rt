@@ -4,8 +4,8 @@ ghost use Rattle.std.specs.Prelude.{◌≡◌};
 ghost use Rattle.operands.specs.Encode.{encode_of};
 ghost use Rattle.operands.specs.Shapes.{size_of, bits_of, shapes, shapes_of, Narrow};
 
-use insns::Insn;
 use decode::form::form;
+use insns::Insn;
 use insns::bits::signed_bits;
 use insns::fields::{
     HALF_16, HALF_24, HALF_32, SIZE_6, SIZE_8, SIZE_12, SIZE_16, SIZE_24, SIZE_32, SIZE_40, make5,

@@ -15,7 +15,7 @@ use lib.Signed.{mag}
 use mir.Syntax.{w64}
 use mir.Val.{Fits, to_z, of_z}
 use mir.ValLaws.{of_z-to_z}
-use Rattle.insns.specs.Fields.{Width, bits, Operand, Operands, Field, bits_in, fields, pack, all_fit, make, word_if, made_number, raw_bits}
+use Rattle.insns.specs.Fields.{Width, bits, Operand, Operands, Field, bits_in, fields, pack, all_fit, make, word_if, made_number}
 use Rattle.insns.specs.Bits.{twos}
 use Rattle.insns.specs.Insns.{form_at, widths, form_of, operands_of, fields_of, made_of}
 use Rattle.insns.specs.Opcodes.{op_of}

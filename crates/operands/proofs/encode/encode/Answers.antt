@@ -1,5 +1,4 @@
 -- `encode` meets its contract: the fields of the form are narrow and have room in a word, and packing makes the word.
-use borrow.Author.Rules.{rules}
 use native.Mathlib.Omega.{arith}
 use Rattle.operands.proofs.encode.Laws.{fit, room_by, encode-by, encode-past}
 use Rattle.operands.proofs.encode.encode.Goals as goal

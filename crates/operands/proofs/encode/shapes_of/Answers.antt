@@ -1,5 +1,4 @@
 -- `shapes_of` meets its contract: each arm knows the form.
-use borrow.Author.Rules.{rules}
 use Rattle.operands.proofs.encode.Laws.{shapes-at}
 use Rattle.operands.proofs.encode.shapes_of.Goals as goal
 

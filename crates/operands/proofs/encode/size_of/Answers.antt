@@ -1,7 +1,6 @@
 -- `size_of` is how many numbers the field holds.
 use mathlib.Core.Path.{refl}
 use native.Mathlib.Omega.{arith}
-use borrow.Author.Rules.{rules}
 use Rattle.operands.proofs.encode.Laws.{size-at, half_at}
 use Rattle.operands.proofs.encode.size_of.Goals as goal
 

@@ -1,5 +1,4 @@
 -- `plain_op` meets its contract: each arm knows the instruction, and hands on its opcode and operands.
-use borrow.Author.Rules.{rules}
 use Rattle.operands.proofs.of_op.Laws.{plain_at}
 use Rattle.operands.proofs.of_op.plain_op.Goals as goal
 
