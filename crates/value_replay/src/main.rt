@@ -8,13 +8,11 @@ use value::Value;
 
 // The operator of a node kind on two values; the second is left alone by Minus and Not.
 fn apply(kind: u64, a: Value, b: Value) -> Result<Value, Fault> {
-    if kind == 6 {
-        return ops::minus(a);
+    match kind {
+        6 => ops::minus(a),
+        7 => ops::not::not(a),
+        _ => ops::binary(kind, a, b),
     }
-    if kind == 7 {
-        return ops::not::not(a);
-    }
-    ops::binary(kind, a, b)
 }
 
 // The pair as a value. A kind that no byte holds is none: `byte_of` makes it 255.
@@ -23,12 +21,8 @@ fn lent(kind: u64, payload: u64) -> Option<Value> {
 }
 
 fn answer(kind: u64, x: Option<Value>, y: Option<Value>) -> Result<Value, Fault> {
-    let Some(a) = x else {
-        return Err(Fault::IllFormed);
-    };
-    let Some(b) = y else {
-        return Err(Fault::IllFormed);
-    };
+    let a = x.ok_or(Fault::IllFormed)?;
+    let b = y.ok_or(Fault::IllFormed)?;
     apply(kind, a, b)
 }
 
@@ -39,8 +33,8 @@ fn write_answer<W: Write>(output: &mut W, a: Result<Value, Fault>) -> io::Result
             replay_io::write_word(output, value::kind_of(v) as u64)?;
             replay_io::write_word(output, value::payload_of(v))
         }
-        Err(n) => {
-            replay_io::write_word(output, n as u64)?;
+        Err(fault) => {
+            replay_io::write_word(output, fault.number() as u64)?;
             replay_io::write_word(output, 0)?;
             replay_io::write_word(output, 0)
         }
