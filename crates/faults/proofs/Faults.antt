@@ -1,8 +1,8 @@
 -- The laws of faults: when a sequence of tests finds none, and what it finds otherwise.
-use mathlib.Core.Path.{◌≡◌, refl, sym, ◌∙◌}
+use mathlib.Core.Path.{◌≡◌, refl, sym, ◌∙◌, ap}
 use mathlib.Core.Bool.{Bool, true, false, ◌&&◌}
 use borrow.Author.Tests.{lt-ltb, le-ltb, le-leb, lt-leb, eq-eqb, ne_eqb}
-use Rattle.std.specs.Prelude.{Ok, Err}
+use Rattle.std.specs.Prelude.{Ok, Err, IsErrAnd}
 use Rattle.faults.specs.declared.Fault.{Fault}
 use Rattle.faults.specs.Faults.{Checked, none, fault, ◌or_else◌}
 
@@ -31,6 +31,11 @@ some_left a b e = sym (first a b e)
 -- a chain of calls, each of which returns its fault at once: `stop` where one returns, `pass` for each before it
 pub stop : {r a : Checked} (b : Checked) {f : Fault} → r ≡ a → r ≡ Err f → r ≡ a or_else b
 stop {r} {a} b e n = e ∙ sym (first a b (sym e ∙ n))
+
+-- the same at a `?`: s is the call's answer, and r what the `?` returns
+pub stopped : {r s a : Checked} (b : Checked) {f : Fault} → s ≡ a → s ≡ Err f → IsErrAnd r (λ e. e ≡ f) → r ≡ a or_else b
+stopped {r = Ok u} b e n h = absurd h
+stopped {r = Err f} b e n h = ap Err h ∙ sym n ∙ stop b e n
 
 pub pass : {s r a b : Checked} → s ≡ a → s ≡ none → r ≡ b → r ≡ a or_else b
 pass {s} {r} {a} {b} e z h = h ∙ sym (second a b (sym e ∙ z))

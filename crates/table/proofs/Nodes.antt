@@ -1,6 +1,7 @@
--- What the check's 0 says of a node and its children.
-use Rattle.std.specs.Prelude.{Option, Some, None}
-use mathlib.Core.Path.{◌≡◌, refl, sym, ◌∙◌, ap, subst}
+-- What it says of a node and its children that the check finds no fault.
+use Rattle.std.specs.Prelude.{Option, Some, None, Ok, Err, IsErrAnd}
+use Rattle.std.proofs.lemmas.Result.{err_from_is_err_and}
+use mathlib.Core.Path.{◌≡◌, refl, sym, ◌∙◌, ap}
 use mathlib.Core.Logic.{⊎_elim}
 use mathlib.Core.Bool.{Bool, true, false, not, ◌&&◌}
 use mathlib.Core.List.{List}
@@ -8,20 +9,23 @@ use Prim.Native.Nat.{ℕ, zero, suc, ◌+◌, ◌-◌, ◌≤◌, ◌<◌, max}
 use native.Mathlib.Nat.{eq-or-lt_of_le}
 use native.Mathlib.Numerals.{add-one, sub-one}
 use native.Mathlib.Omega.{arith}
-use lib.Dec.{leb, ltb, eqb}
-use lib.ListN.{get_or}
-use borrow.Author.Tests.{ltb-false, eqb-true, eqb-false, leb-false, lt-leb, not-false, eq-eqb}
+use lib.Dec.{leb, eqb}
+use borrow.Author.Tests.{ltb-false, eqb-true, leb-false, lt-leb, not-false, eq-eqb}
+use Rattle.faults.specs.declared.Fault.{Fault}
 use Rattle.faults.specs.Limits.{max_depth}
-use Rattle.faults.specs.Faults.{fault, ◌or_else◌}
+use Rattle.faults.specs.Faults.{Checked, none, fault}
+use Rattle.faults.specs.Numbers.{bad_node, too_deep, not_local}
 use Rattle.table.specs.Table.{kind_at, payload_at, first_at, depth_at, child1, child2, child3, arity, kind_fault, limit_fault, children, span_fault, node_fault, nodes_fault, node_count}
 use Rattle.table.specs.Nodes.{Node, Child, Below}
-use Rattle.faults.proofs.Faults.{none_both, first, second, failed, and-true, stop, pass}
+use Rattle.faults.proofs.Faults.{none_both, first, second, failed, and-true, stopped, pass}
 
 -- ---- the children
 
 pub no_more : (ws : List ℕ) (e d f g : ℕ) → children ws 0 e d ≡ Some (f, g) → (e ≡ f) × (d ≡ g)
 unfolding children
-no_more ws e d f g h = (cc, cc)
+no_more ws e d f g h =
+    let p : ◌≡◌ {A = ℕ × ℕ} (e, d) (f, g) = cc in
+    (ap (λ x. x.0) p, ap (λ x. x.1) p)
 
 pub one_more : (ws : List ℕ) (n e d f g : ℕ) → children ws (suc n) e d ≡ Some (f, g) → (0 < e) × (children ws n (first_at ws (e - 1)) (max d (depth_at ws (e - 1))) ≡ Some (f, g))
 unfolding children
@@ -64,11 +68,11 @@ pub record NodeOk (ws : List ℕ) (base i : ℕ) : Type 0 where
 
 spans-ok : (s : Option (ℕ × ℕ)) (f d : ℕ) → span_fault s f d ≡ Ok tt → (s ≡ Some (f, (d - 1))) × (0 < d)
 unfolding span_fault
-spans-ok None f d h = absurd (omega arith)
+spans-ok None f d h = absurd (cc)
 spans-ok (Some (e, g)) f d h =
-    let p = none_both (fault (not (eqb f e)) 2) (fault (not (eqb d (g + 1))) 2) h in
-    let q : f ≡ e = eqb-true f e (not-false (eqb f e) (failed (not (eqb f e)) 1 p.0)) in
-    let r : d ≡ g + 1 = eqb-true d (g + 1) (not-false (eqb d (g + 1)) (failed (not (eqb d (g + 1))) 1 p.1)) in
+    let p = none_both (fault (not (eqb f e)) bad_node) (fault (not (eqb d (g + 1))) bad_node) h in
+    let q : f ≡ e = eqb-true f e (not-false (eqb f e) (failed (not (eqb f e)) bad_node p.0)) in
+    let r : d ≡ g + 1 = eqb-true d (g + 1) (not-false (eqb d (g + 1)) (failed (not (eqb d (g + 1))) bad_node p.1)) in
     let t : g ≡ d - 1 = omega arith in
     (cc, omega arith)
 
@@ -81,11 +85,11 @@ node_ok ws base i h =
     let l = none_both _ _ q.1 in
     let t = spans-ok _ _ _ q.0 in
     record {
-      known = ltb-false _ _ (failed _ 1 k.0);
+      known = ltb-false _ _ (failed _ bad_node k.0);
       spans = t.0;
       deep = t.1;
-      shallow = ltb-false _ _ (failed _ 2 l.0);
-      refers = λ e. leb-false _ _ (and-true _ _ (failed _ 3 l.1) (eq-eqb _ _ e));
+      shallow = ltb-false _ _ (failed _ too_deep l.0);
+      refers = λ e. leb-false _ _ (and-true _ _ (failed _ not_local l.1) (eq-eqb _ _ e));
     }
 
 pub all-ok : (ws : List ℕ) (base n : ℕ) → nodes_fault ws base n ≡ Ok tt → (i : ℕ) → i < n → NodeOk ws base i
@@ -212,7 +216,7 @@ unfolding nodes_fault
 one-ahead ws base i h k = rw (add-one, second _ _ h) k
 
 -- the first fault is the answer
-pub stops : (ws : List ℕ) (base i n : ℕ) → nodes_fault ws base i ≡ Ok tt → (node_fault ws base i ≡ Ok tt → ⊥) → i < n → nodes_fault ws base n ≡ node_fault ws base i
+pub stops : (ws : List ℕ) (base i n : ℕ) {f : Fault} → nodes_fault ws base i ≡ Ok tt → node_fault ws base i ≡ Err f → i < n → nodes_fault ws base n ≡ node_fault ws base i
 unfolding nodes_fault
 stops ws base i zero h k lt = absurd (omega arith)
 stops ws base i (suc n) h k lt =
@@ -220,7 +224,7 @@ stops ws base i (suc n) h k lt =
     let ih : i < n → nodes_fault ws base n ≡ node_fault ws base i = stops ws base i n h k in
     ⊎_elim
     (λ e. rw (← e) (second _ _ h))
-    (λ l. first _ _ (λ z. k (sym (ih l) ∙ z)) ∙ ih l)
+    (λ l. first _ _ (ih l ∙ k) ∙ ih l)
     (eq-or-lt_of_le at_most)
 
 pub below_of : (ws : List ℕ) (base i : ℕ) → i ≤ node_count ws → nodes_fault ws base i ≡ Ok tt → Below ws i
@@ -228,23 +232,24 @@ below_of ws base i h e = record { inside = h; low = first-le ws base i e }
 
 -- ---- the returns of `node_fault`, which `search node-faults` finds
 
-module _ (ws : List ℕ) (base i : ℕ) {k p f : ℕ} (hk : k ≡ kind_at ws i) (hp : p ≡ payload_at ws i) (hf : f ≡ kind_fault k p) where
+module _ (ws : List ℕ) (base i : ℕ) {k p : ℕ} {f : Checked} (hk : k ≡ kind_at ws i) (hp : p ≡ payload_at ws i) (hf : f ≡ kind_fault k p) where
   kind-part : f ≡ kind_fault (kind_at ws i) (payload_at ws i)
   kind-part = cc
 
-  pub kind-stops : (f ≡ 0 → ⊥) → f ≡ node_fault ws base i
+  pub kind-stops : {e : Fault} {r : Checked} → f ≡ Err e → IsErrAnd r (λ x. x ≡ e) → r ≡ node_fault ws base i
   unfolding node_fault
-  kind-stops n = stop _ kind-part n
+  kind-stops n h = stopped _ kind-part n h
 
-  module _ {a d x g : ℕ} {t : Option (ℕ × ℕ)} (z : f ≡ 0) (ha : a ≡ arity k) (ht : t ≡ children ws a i 0) (hx : x ≡ first_at ws i) (hd : d ≡ depth_at ws i) (hg : g ≡ span_fault t x d) where
+  module _ {a d x : ℕ} {g : Checked} {t : Option (ℕ × ℕ)} (z : f ≡ none) (ha : a ≡ arity k)
+      (ht : t ≡ children ws a i 0) (hx : x ≡ first_at ws i) (hd : d ≡ depth_at ws i) (hg : g ≡ span_fault t x d) where
     span-part : g ≡ span_fault (children ws (arity (kind_at ws i)) i 0) (first_at ws i) (depth_at ws i)
     span-part = cc
 
-    pub span-stops : (g ≡ 0 → ⊥) → g ≡ node_fault ws base i
+    pub span-stops : {e : Fault} {r : Checked} → g ≡ Err e → IsErrAnd r (λ x. x ≡ e) → r ≡ node_fault ws base i
     unfolding node_fault
-    span-stops n = pass kind-part z (stop _ span-part n)
+    span-stops n h = pass kind-part z (stopped _ span-part n h)
 
-    pub limit-stops : {l : ℕ} → g ≡ 0 → l ≡ limit_fault k p d base → l ≡ node_fault ws base i
+    pub limit-stops : {l : Checked} → g ≡ none → l ≡ limit_fault k p d base → l ≡ node_fault ws base i
     unfolding node_fault
     limit-stops {l} z' h = let q : l ≡ limit_fault (kind_at ws i) (payload_at ws i) (depth_at ws i) base = cc in pass kind-part z (pass span-part z' q)
 
@@ -272,13 +277,16 @@ pub ruleset turns = (left-missing, left-none, left-again, left-within, inside-by
 
 -- ---- the loop of `nodes_fault`: `search passes`
 
-pub some-fault : (ws : List ℕ) (base i : ℕ) {n r : ℕ} → nodes_fault ws base i ≡ Ok tt → i < n → r ≡ node_fault ws base i → (r ≡ 0 → ⊥) → r ≡ nodes_fault ws base n
-some-fault ws base i h lt e k = e ∙ sym (stops ws base i _ h (λ z. k (e ∙ z)) lt)
+pub some-fault : (ws : List ℕ) (base i : ℕ) {n : ℕ} {r s : Checked} {f : Fault} → nodes_fault ws base i ≡ Ok tt → i < n → s ≡ node_fault ws base i → s ≡ Err f → IsErrAnd r (λ x. x ≡ f)
+    → r ≡ nodes_fault ws base n
+some-fault ws base i h lt e k q =
+    let p = err_from_is_err_and _ q in
+    p.1 ∙ ap Err p.2 ∙ sym k ∙ e ∙ sym (stops ws base i _ h (sym e ∙ k) lt)
 
-pub no-fault : (ws : List ℕ) (base i : ℕ) {r : ℕ} → nodes_fault ws base i ≡ Ok tt → r ≡ node_fault ws base i → r ≡ 0 → nodes_fault ws base (i + 1) ≡ Ok tt
+pub no-fault : (ws : List ℕ) (base i : ℕ) {r : Checked} → nodes_fault ws base i ≡ Ok tt → r ≡ node_fault ws base i → r ≡ none → nodes_fault ws base (i + 1) ≡ Ok tt
 no-fault ws base i h e z = one-ahead ws base i h (sym e ∙ z)
 
-pub all-passed : (ws : List ℕ) (base i n : ℕ) → nodes_fault ws base i ≡ Ok tt → i ≤ n → n ≤ i → 0 ≡ nodes_fault ws base n
+pub all-passed : (ws : List ℕ) (base i n : ℕ) → nodes_fault ws base i ≡ Ok tt → i ≤ n → n ≤ i → none ≡ nodes_fault ws base n
 all-passed ws base i n h p q = let e : i ≡ n = omega arith in sym (rw e at h)
 
 pub ruleset passes = (some-fault, no-fault, all-passed, below_of)
@@ -295,7 +303,7 @@ node-raise ws base b i h e =
     let p = none_both _ _ e in
     let q = none_both _ _ p.1 in
     let l = none_both _ _ q.1 in
-    rw (second _ _ p.0, second _ _ q.0, second _ _ l.0, and-raise (eqb (kind_at ws i) 5) (payload_at ws i) base b h (failed _ 3 l.1))
+    rw (second _ _ p.0, second _ _ q.0, second _ _ l.0, and-raise (eqb (kind_at ws i) 5) (payload_at ws i) base b h (failed _ not_local l.1))
 
 nodes-raise : (ws : List ℕ) (base b n : ℕ) → base ≤ b → nodes_fault ws base n ≡ Ok tt → nodes_fault ws b n ≡ Ok tt
 unfolding nodes_fault

@@ -1,16 +1,15 @@
 -- The check's few tests: where they all hold, the node has no fault. Each law is over plain values, and `search` finds it.
-use Rattle.std.specs.Prelude.{Option, Some}
+use Rattle.std.specs.Prelude.{Option, Some, Ok}
 use mathlib.Core.Path.{◌≡◌, refl, sym, ◌∙◌, ap}
 use mathlib.Core.Bool.{Bool, true, false, not, cond, ◌&&◌, false≢true}
 use mathlib.Core.List.{List}
 use Prim.Native.Nat.{ℕ, zero, suc, ◌+◌, ◌-◌, ◌≤◌, ◌<◌, max}
 use native.Mathlib.Omega.{arith}
 use lib.Dec.{leb, ltb, eqb}
-use lib.ListN.{get_or}
 use mir.Syntax.{w64}
 use mir.Val.{Fits}
 use borrow.Author.Tests.{ltb-true, leb-true, leb-false, eqb-true, le-ltb, lt-leb, eq-eqb, ne_eqb}
-use Rattle.faults.specs.Faults.{fault, ◌or_else◌}
+use Rattle.faults.specs.Faults.{Checked, none, fault, ◌or_else◌}
 use Rattle.faults.specs.Limits.{max_depth}
 use Rattle.float.specs.Bits.{is_finite}
 use Rattle.table.specs.Table.{node_count, kind_at, payload_at, first_at, depth_at, kind_fault, children, span_at, span_fault, limit_fault, node_fault, nodes_fault}
@@ -50,7 +49,7 @@ all_none ws base i f g h = second _ _ f ∙ second _ _ g ∙ h
 pub right-false : (ws : List ℕ) (base i : ℕ) → Right ws base i false
 right-false ws base i = record { none = λ e. absurd (false≢true e) }
 
-pub right-none : (ws : List ℕ) (base i : ℕ) {r : Bool} → Right ws base i r → r ≡ true → 0 ≡ node_fault ws base i
+pub right-none : (ws : List ℕ) (base i : ℕ) {r : Bool} → Right ws base i r → r ≡ true → none ≡ node_fault ws base i
 right-none ws base i q e = sym (q.none e)
 
 -- ---- `payload_right`: the six kinds of a leaf, one after the other
@@ -144,7 +143,7 @@ unary-left ws zero g h = turn-missing ws 1 0 0 (omega arith) refl ∙ sym (turn-
 unary-left ws (suc j) g h =
     let q : g ≡ depth_at ws (suc j - 1) = h (omega arith) in
     let m : max 0 (depth_at ws (suc j - 1)) ≡ max g (depth_at ws (suc j - 1)) = omega arith in
-    one_left ws (suc j) 0 (λ z. omega arith) ∙ ap (TODO_Between (first_at ws (suc j - 1))) m ∙ sym (one_left ws (suc j) g (λ z. omega arith))
+    one_left ws (suc j) 0 (λ z. omega arith) ∙ ap (λ x. Some (first_at ws (suc j - 1), x)) m ∙ sym (one_left ws (suc j) g (λ z. omega arith))
 
 -- past the last child
 past-last : (ws : List ℕ) (n i e g : ℕ) → e ≤ i → (0 < i → e ≡ first_at ws (i - 1)) → (0 < i → g ≡ depth_at ws (i - 1)) → children ws (suc (suc n)) i 0 ≡ children ws (suc n) e g
@@ -211,7 +210,7 @@ pub ruleset rights = (right-false, right-none, payload-is, leaf-is, over-is, ove
 pub last-zero : (ws : List ℕ) → Last ws 0 0 0
 last-zero ws = record { first = λ h. absurd (omega arith); depth = λ h. absurd (omega arith); low = omega arith; shallow = omega arith }
 
-pub last-next : (ws : List ℕ) (base i : ℕ) {r f d : ℕ} → nodes_fault ws base i ≡ Ok tt → r ≡ node_fault ws base i → r ≡ 0 → f ≡ first_at ws i → d ≡ depth_at ws i → Last ws (i + 1) f d
+pub last-next : (ws : List ℕ) (base i : ℕ) {r : Checked} {f d : ℕ} → nodes_fault ws base i ≡ Ok tt → r ≡ node_fault ws base i → r ≡ none → f ≡ first_at ws i → d ≡ depth_at ws i → Last ws (i + 1) f d
 last-next ws base i n q z hf hd =
     let h = no-fault ws base i n q z in
     let s = (all-ok ws base (i + 1) h i (omega arith)).shallow in

@@ -1,21 +1,21 @@
--- What the check's 0 says of the whole table.
-use Rattle.std.specs.Prelude.{Option, Some}
-use mathlib.Core.Path.{◌≡◌, refl, sym, ◌∙◌}
-use mathlib.Core.Bool.{not}
+-- What it says of the whole table that the check finds no fault.
+use Rattle.std.specs.Prelude.{Option, Some, Ok}
+use mathlib.Core.Path.{◌≡◌, sym, ◌∙◌}
 use mathlib.Core.List.{List}
 use Prim.Native.Nat.{ℕ, ◌+◌, ◌-◌, ◌%◌, ◌≤◌, ◌<◌}
 use native.Mathlib.Omega.{arith}
-use lib.Dec.{eqb}
 use lib.ListN.{length}
 use mir.Syntax.{w64}
 use mir.Val.{Fits}
 use borrow.Author.Tests.{leb-false, ltb-false, eqb-true, eqb-false, not-false}
-use Rattle.faults.specs.Limits.{max_nodes, max_depth, max_registers}
-use Rattle.table.specs.Table.{node_count, first_at, shape_fault, layout_fault, dest_fault, nodes_fault, last_fault, check_of}
+use borrow.Author.Rules.{rules}
+use Rattle.faults.specs.Faults.{Checked, none}
+use Rattle.faults.specs.Numbers.{bad_shape, bad_node, not_local, no_register}
+use Rattle.faults.specs.Limits.{max_nodes, max_registers}
+use Rattle.table.specs.Table.{node_count, first_at, shape_fault, layout_fault, dest_fault, last_fault, check_of}
 use Rattle.table.specs.Nodes.{Node}
-use Rattle.table.specs.Tree.{tree, size, depth}
-use Rattle.table.specs.Accepted.{Subtree, Accepted}
-use Rattle.faults.proofs.Faults.{none_both, failed, stop, pass}
+use Rattle.table.specs.Accepted.{Accepted}
+use Rattle.faults.proofs.Faults.{none_both, failed, stopped, pass}
 use Rattle.table.proofs.Nodes.{ok}
 use Rattle.table.proofs.Held.{subtree}
 
@@ -28,23 +28,23 @@ unfolding shape_fault
 shape-ok ws h =
     let p = none_both _ _ h in
     let q = none_both _ _ p.1 in
-    let n : length ws ≡ 0 → ⊥ = eqb-false _ _ (failed _ 0 p.0) in
-    let r : length ws % 4 ≡ 0 = eqb-true _ _ (not-false _ (failed _ 0 q.0)) in
-    let few : node_count ws ≤ max_nodes = ltb-false _ _ (failed _ 0 q.1) in
+    let n : length ws ≡ 0 → ⊥ = eqb-false _ _ (failed _ bad_shape p.0) in
+    let r : length ws % 4 ≡ 0 = eqb-true _ _ (not-false _ (failed _ bad_shape q.0)) in
+    let few : node_count ws ≤ max_nodes = ltb-false _ _ (failed _ bad_shape q.1) in
     record { some = omega arith; few = few }
 
 pub layout-ok : (params locals : ℕ) → layout_fault params locals ≡ Ok tt → params + locals ≤ max_registers
 unfolding layout_fault
-layout-ok params locals h = ltb-false _ _ (failed _ 4 h)
+layout-ok params locals h = ltb-false _ _ (failed _ no_register h)
 
 -- the same for `search`, at what `check` asks
-pub base-fits : (params locals : ℕ) {l : ℕ} → l ≡ layout_fault params locals → l ≡ 0 → Fits w64 (params + locals)
+pub base-fits : (params locals : ℕ) {l : Checked} → l ≡ layout_fault params locals → l ≡ none → Fits w64 (params + locals)
 base-fits params locals e z = let h = layout-ok params locals (sym e ∙ z) in omega arith
 
-pub some-node : (ws : List ℕ) {s : ℕ} → s ≡ shape_fault ws → s ≡ 0 → 0 < node_count ws
+pub some-node : (ws : List ℕ) {s : Checked} → s ≡ shape_fault ws → s ≡ none → 0 < node_count ws
 some-node ws e z = (shape-ok ws (sym e ∙ z)).some
 
-pub ruleset checks = (stop, pass, base-fits, some-node)
+pub ruleset checks = (stopped, pass, base-fits, some-node, rules)
 
 -- an accepted table holds exactly one tree, of all its nodes, and each node its subtree
 pub accepted : (ws : List ℕ) (params locals : ℕ) (dest : Option ℕ) → check_of ws params locals dest ≡ Ok tt → Accepted ws params locals
@@ -57,7 +57,7 @@ accepted ws params locals dest h =
     let base = params + locals in
     let sh = shape-ok ws p.0 in
     let n : Node ws (params + locals) (node_count ws - 1) = record { checked = s.0; inside = omega arith } in
-    let z : first_at ws (node_count ws - 1) ≡ 0 = eqb-true _ _ (not-false _ (failed _ 1 s.1)) in
+    let z : first_at ws (node_count ws - 1) ≡ 0 = eqb-true _ _ (not-false _ (failed _ bad_node s.1)) in
     let o = ok ws base _ n in
     let t = subtree ws base _ n in
     record {
@@ -77,4 +77,4 @@ unfolding check_of dest_fault
 dest-below ws params locals r h =
     let p = none_both _ _ h in
     let q = none_both _ _ p.1 in
-    leb-false _ _ (failed _ 3 (none_both _ _ q.1).0)
+    leb-false _ _ (failed _ not_local (none_both _ _ q.1).0)

@@ -1,5 +1,5 @@
 -- What an accepted table holds: exactly one tree at its last node, and at each node its subtree. `proofs/Whole.antt`, `accepted`, shows it of
--- every table whose number is 0.
+-- every table in which the check finds no fault.
 use Rattle.std.specs.Prelude.{ℕ, ◌+◌, ◌-◌, ◌≤◌, ◌<◌, ◌≡◌, List}
 use Rattle.faults.specs.Limits.{max_nodes, max_depth, max_registers}
 use Rattle.table.specs.Table.{node_count, first_at, depth_at}

@@ -1,6 +1,6 @@
 -- The first and depth of every node, filled in by document 01: "`first` is the lowest node of the subtree, `depth` is 1 for a leaf, else one more than the
 -- deepest child". All other words stay: kinds, payloads, and those after the last whole node.
-use Rattle.std.specs.Prelude.{ℕ, zero, suc, ◌+◌, ◌*◌, ◌≤◌, ◌<◌, ◌^◌, ◌≡◌, List, length, get_or, set, Option, Some, None}
+use Rattle.std.specs.Prelude.{ℕ, zero, suc, ◌+◌, ◌*◌, ◌≤◌, ◌<◌, ◌≡◌, List, length, get_or, set, Option, Some, None}
 use Rattle.table.specs.Table.{node_count, kind_at, payload_at, first_at, depth_at, span_at}
 
 -- what a node's children give it. A leaf i has none, so they cover nothing: its first is i, and its depth 0 + 1.

@@ -1,5 +1,5 @@
 -- Plumbing: what functions over a table ask of a node and say of its children. It adds nothing to what 01 says of a table.
-use Rattle.std.specs.Prelude.{ℕ, ◌-◌, ◌≤◌, ◌<◌, ◌^◌, ◌≡◌, Bool, true, List, get_or, Option}
+use Rattle.std.specs.Prelude.{ℕ, ◌-◌, ◌≤◌, ◌<◌, ◌^◌, ◌≡◌, Bool, true, List, Option, Ok}
 use Rattle.faults.specs.Limits.{max_depth}
 use Rattle.table.specs.Table.{node_count, kind_at, first_at, depth_at, span_at, children, kind_fault, node_fault, nodes_fault}
 use Rattle.table.specs.Complete.{span_depth}

@@ -1,6 +1,6 @@
--- The node table, and the number that its check gives: 0, or the first fault in the order of document 01.
-use Rattle.std.specs.Prelude.{ℕ, zero, suc, ◌+◌, ◌*◌, ◌-◌, ◌/◌, ◌%◌, ◌≤◌, ◌<◌, max, ◌≡◌, Bool, true, false, not, cond, ◌&&◌, List, leb, ltb, eqb, length, get_or, Option, Some, None}
-use Rattle.faults.specs.Faults.{fault, ◌or_else◌}
+-- The node table, and what its check answers: nothing, or the first fault in the order of document 01.
+use Rattle.std.specs.Prelude.{ℕ, zero, suc, ◌+◌, ◌*◌, ◌-◌, ◌/◌, ◌%◌, max, not, cond, ◌&&◌, List, leb, ltb, eqb, length, get_or, Option, Some, None, Err}
+use Rattle.faults.specs.Faults.{Checked, none, fault, ◌or_else◌}
 use Rattle.faults.specs.Limits.{max_nodes, max_depth, max_registers}
 use Rattle.float.specs.Bits.{is_finite}
 use Rattle.faults.specs.Numbers.{bad_shape, bad_node, too_deep, not_local, no_register}
@@ -46,7 +46,7 @@ unfoldable pub arity : ℕ → ℕ
 arity k = cond (leb k 5) 0 (cond (leb k 7) 1 (cond (leb k 25) 2 3))
 
 -- the kind is known, the payload is 0 but for kinds 3 to 5, and a Float literal, kind 4, is finite
-abbrev pub kind_fault : ℕ → ℕ → ℕ
+abbrev pub kind_fault : ℕ → ℕ → Checked
 kind_fault k p =
     fault (ltb 26 k) bad_node
     or_else fault (not (eqb p 0) && not (leb 3 k && leb k 5)) bad_node
@@ -63,45 +63,45 @@ abbrev pub span_at : List ℕ → ℕ → Option (ℕ × ℕ)
 span_at ws i = children ws (arity (kind_at ws i)) i 0
 
 -- no child is missing, `first` is the lowest node, and `depth` one more than the deepest child's
-unfoldable pub span_fault : Option (ℕ × ℕ) → ℕ → ℕ → ℕ
-span_fault None f d = bad_node
+unfoldable pub span_fault : Option (ℕ × ℕ) → ℕ → ℕ → Checked
+span_fault None f d = Err bad_node
 span_fault (Some (e, g)) f d = fault (not (eqb f e)) bad_node or_else fault (not (eqb d (g + 1))) bad_node
 
 -- the depth is within its limit, and a Ref below the base
-abbrev pub limit_fault : ℕ → ℕ → ℕ → ℕ → ℕ
+abbrev pub limit_fault : ℕ → ℕ → ℕ → ℕ → Checked
 limit_fault k p d base = fault (ltb max_depth d) too_deep or_else fault (eqb k 5 && leb base p) not_local
 
 -- at each node 2, then 3, then 4
-unfoldable pub node_fault : List ℕ → ℕ → ℕ → ℕ
+unfoldable pub node_fault : List ℕ → ℕ → ℕ → Checked
 node_fault ws base i =
     kind_fault (kind_at ws i) (payload_at ws i)
     or_else span_fault (span_at ws i) (first_at ws i) (depth_at ws i)
     or_else limit_fault (kind_at ws i) (payload_at ws i) (depth_at ws i) base
 
 -- the first fault of the nodes below n, from 0 upward
-unfoldable pub nodes_fault : List ℕ → ℕ → ℕ → ℕ
-nodes_fault ws base zero = 0
+unfoldable pub nodes_fault : List ℕ → ℕ → ℕ → Checked
+nodes_fault ws base zero = none
 nodes_fault ws base (suc n) = nodes_fault ws base n or_else node_fault ws base n
 
 -- ---- the whole: 1, layout 5, destination 4, the nodes, the last node's first
 
-unfoldable pub shape_fault : List ℕ → ℕ
+unfoldable pub shape_fault : List ℕ → Checked
 shape_fault ws =
     fault (eqb (length ws) 0) bad_shape
     or_else fault (not (eqb (length ws % 4) 0)) bad_shape
     or_else fault (ltb max_nodes (node_count ws)) bad_shape
 
-unfoldable pub layout_fault : ℕ → ℕ → ℕ
+unfoldable pub layout_fault : ℕ → ℕ → Checked
 layout_fault params locals = fault (ltb max_registers (params + locals)) no_register
 
-unfoldable pub dest_fault : Option ℕ → ℕ → ℕ
-dest_fault None base = 0
+unfoldable pub dest_fault : Option ℕ → ℕ → Checked
+dest_fault None base = none
 dest_fault (Some r) base = fault (leb base r) not_local
 
-unfoldable pub last_fault : List ℕ → ℕ
+unfoldable pub last_fault : List ℕ → Checked
 last_fault ws = fault (not (eqb (first_at ws (node_count ws - 1)) 0)) bad_node
 
-unfoldable pub check_of : List ℕ → ℕ → ℕ → Option ℕ → ℕ
+unfoldable pub check_of : List ℕ → ℕ → ℕ → Option ℕ → Checked
 check_of ws params locals dest =
     shape_fault ws
     or_else layout_fault params locals

@@ -5,25 +5,24 @@ ghost use Rattle.table.specs.Table.{node_count, kind_at, kind_fault, limit_fault
 ghost use Rattle.table.specs.Table.{shape_fault, layout_fault, dest_fault, last_fault, check_of};
 ghost use Rattle.table.specs.Nodes.{Below, Right, PayloadRight, Over, Passed};
 
-use faults::Fault;
 use crate::children::{arity_of, children_of, greater};
+use faults::Fault;
 
-// The number of the first of two tests that holds, else none.
-fn either(a: bool, n: u8, b: bool, m: u8) -> u8
-    requires { 0 < n }
+// The fault of the first of two tests that holds, else none.
+fn either(a: bool, n: Fault, b: bool, m: Fault) -> Result<(), Fault>
     ensures { result ≡ fault a n or_else fault b m }
 {
     if a {
-        return n;
+        return Err(n);
     }
     if b {
-        return m;
+        return Err(m);
     }
-    faults::NONE
+    Ok(())
 }
 
 // The kind is known, the payload is 0 but for kinds 3 to 5, and a Float literal is finite: no editor writes another, so that one is damage.
-fn kind_fault(k: u64, p: u64) -> u8
+fn kind_fault(k: u64, p: u64) -> Result<(), Fault>
     ensures { result ≡ kind_fault k p }
 {
     let idle = !((crate::INT <= k) & (k <= crate::REF));
@@ -36,28 +35,28 @@ fn kind_fault(k: u64, p: u64) -> u8
 }
 
 // First and depth are what the children give. Everything above relies on them: the children's places on first, the end of every recursion on depth.
-fn span_fault(s: Option<(usize, u64)>, f: usize, d: u64) -> u8
+fn span_fault(s: Option<(usize, u64)>, f: usize, d: u64) -> Result<(), Fault>
     ensures { result ≡ span_fault s f d }
 {
     match s {
-        None => Fault::BadNode,
+        None => Err(Fault::BadNode),
         Some((e, g)) => {
             if f != e {
-                return Fault::BadNode;
+                return Err(Fault::BadNode);
             }
             if d == 0 {
-                return Fault::BadNode;
+                return Err(Fault::BadNode);
             }
             if d - 1 != g {
-                return Fault::BadNode;
+                return Err(Fault::BadNode);
             }
-            faults::NONE
+            Ok(())
         }
     }
 }
 
 // The depth is within its limit, and a register below the base.
-fn limit_fault(k: u64, p: u64, d: u64, base: u64) -> u8
+fn limit_fault(k: u64, p: u64, d: u64, base: u64) -> Result<(), Fault>
     ensures { result ≡ limit_fault k p d base }
 {
     either(
@@ -69,7 +68,7 @@ fn limit_fault(k: u64, p: u64, d: u64, base: u64) -> u8
 }
 
 // The fault of node i, whose predecessors have none, by all the rules in their order.
-fn full_fault(nodes: &[u64], base: u64, i: usize) -> u8
+fn full_fault(nodes: &[u64], base: u64, i: usize) -> Result<(), Fault>
     requires i_bound { i < node_count nodes.now }
     requires below { Below nodes.now i }
     ensures { result ≡ node_fault nodes.now base i }
@@ -77,18 +76,12 @@ fn full_fault(nodes: &[u64], base: u64, i: usize) -> u8
     let k = crate::kind_at(nodes, i);
     let p = crate::payload_at(nodes, i);
     let d = crate::depth_at(nodes, i);
-    let f = kind_fault(k, p);
-    if f != faults::NONE {
-        return f;
-    }
-    let g = span_fault(
+    kind_fault(k, p)?;
+    span_fault(
         children_of(nodes, arity_of(k), i),
         crate::first_at(nodes, i),
         d,
-    );
-    if g != faults::NONE {
-        return g;
-    }
+    )?;
     limit_fault(k, p, d, base)
 }
 
@@ -186,19 +179,19 @@ fn node_right(nodes: &[u64], base: u64, i: usize, e: usize, g: u64) -> bool
     three_right(nodes, base, i, e, g)
 }
 
-// The fault of node i. Few tests show that a node is right; one that is not gets its number from all the rules, and ends the check.
-fn node_fault(nodes: &[u64], base: u64, i: usize, e: usize, g: u64) -> u8
+// The fault of node i. Few tests show that a node is right; one that is not gets its fault from all the rules, and ends the check.
+fn node_fault(nodes: &[u64], base: u64, i: usize, e: usize, g: u64) -> Result<(), Fault>
     requires { Passed nodes.now base i e g }
     ensures { result ≡ node_fault nodes.now base i }
 {
     if node_right(nodes, base, i, e, g) {
-        return faults::NONE;
+        return Ok(());
     }
     full_fault(nodes, base, i)
 }
 
 // The first fault of the nodes, from 0 upward. A node's first and depth are kept for the next one, which may be its parent.
-fn nodes_fault(nodes: &[u64], base: u64) -> u8
+fn nodes_fault(nodes: &[u64], base: u64) -> Result<(), Fault>
     ensures { result ≡ nodes_fault nodes.now base (node_count nodes.now) }
 {
     let n = nodes.len() / 4;
@@ -206,94 +199,79 @@ fn nodes_fault(nodes: &[u64], base: u64) -> u8
     let mut e = 0;
     let mut g = 0;
     while i < n {
-        let f = node_fault(nodes, base, i, e, g);
-        if f != faults::NONE {
-            return f;
-        }
+        node_fault(nodes, base, i, e, g)?;
         e = crate::first_at(nodes, i);
         g = crate::depth_at(nodes, i);
         i += 1;
     }
-    faults::NONE
+    Ok(())
 }
 
 // Some node, whole nodes only, and no more than the limit.
-fn shape_fault(nodes: &[u64]) -> u8
+fn shape_fault(nodes: &[u64]) -> Result<(), Fault>
     ensures { result ≡ shape_fault nodes.now }
 {
     let n = nodes.len();
     if n == 0 {
-        return Fault::BadShape;
+        return Err(Fault::BadShape);
     }
     if n % 4 != 0 {
-        return Fault::BadShape;
+        return Err(Fault::BadShape);
     }
     if faults::MAX_NODES < n / 4 {
-        return Fault::BadShape;
+        return Err(Fault::BadShape);
     }
-    faults::NONE
+    Ok(())
 }
 
 // Tested by a difference: the sum of two counts that a caller gives might not fit 64 bits.
-fn layout_fault(params: u64, locals: u64) -> u8
+fn layout_fault(params: u64, locals: u64) -> Result<(), Fault>
     ensures { result ≡ layout_fault params locals }
 {
     if faults::MAX_REGISTERS < params {
-        return Fault::NoRegister;
+        return Err(Fault::NoRegister);
     }
     if faults::MAX_REGISTERS - params < locals {
-        return Fault::NoRegister;
+        return Err(Fault::NoRegister);
     }
-    faults::NONE
+    Ok(())
 }
 
 // A destination is a local: a register from the base up may be in use for a temporary.
-fn dest_fault(dest: Option<u64>, base: u64) -> u8
+fn dest_fault(dest: Option<u64>, base: u64) -> Result<(), Fault>
     ensures { result ≡ dest_fault dest base }
 {
     match dest {
-        None => faults::NONE,
+        None => Ok(()),
         Some(r) => {
             if base <= r {
-                Fault::NotLocal
+                Err(Fault::NotLocal)
             } else {
-                faults::NONE
+                Ok(())
             }
         }
     }
 }
 
 // The last node is the root. Its subtree takes in every node, so that none is left that no one evaluates.
-fn last_fault(nodes: &[u64]) -> u8
+fn last_fault(nodes: &[u64]) -> Result<(), Fault>
     requires { 0 < node_count nodes.now }
     ensures { result ≡ last_fault nodes.now }
 {
     if crate::first_at(nodes, nodes.len() / 4 - 1) != 0 {
-        return Fault::BadNode;
+        return Err(Fault::BadNode);
     }
-    faults::NONE
+    Ok(())
 }
 
-// The number of a table with its layout and its destination: 0, or the first fault.
-pub fn check(nodes: &[u64], params: u64, locals: u64, dest: Option<u64>) -> u8
+// Whether a table with its layout and its destination is accepted, or its first fault.
+pub fn check(nodes: &[u64], params: u64, locals: u64, dest: Option<u64>) -> Result<(), Fault>
     ensures { result ≡ check_of nodes.now params locals dest }
 {
-    let s = shape_fault(nodes);
-    if s != faults::NONE {
-        return s;
-    }
-    let l = layout_fault(params, locals);
-    if l != faults::NONE {
-        return l;
-    }
+    shape_fault(nodes)?;
+    layout_fault(params, locals)?;
     let base = params + locals;
-    let d = dest_fault(dest, base);
-    if d != faults::NONE {
-        return d;
-    }
-    let n = nodes_fault(nodes, base);
-    if n != faults::NONE {
-        return n;
-    }
+    dest_fault(dest, base)?;
+    nodes_fault(nodes, base)?;
     last_fault(nodes)
 }

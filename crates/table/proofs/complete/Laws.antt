@@ -1,5 +1,5 @@
 -- Completing a table from node 0 upward: a node's store changes no node below it, and so not what the children of a lower node cover.
-use Rattle.std.specs.Prelude.{Option, Some, None}
+use Rattle.std.specs.Prelude.{Option, Some, None, Ok}
 use mathlib.Core.Path.{◌≡◌, refl, sym, ◌∙◌, ap}
 use mathlib.Core.Logic.{⊎_elim}
 use mathlib.Core.List.{List}

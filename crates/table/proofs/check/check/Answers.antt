@@ -1,33 +1,43 @@
 -- `check::check` meets its contract: a chain of calls, of which the first fault counts.
-use borrow.Author.Rules.{rules}
+use Rattle.faults.proofs.Faults.{stopped, pass}
 use Rattle.table.specs.Table.{check_of}
-use Rattle.table.proofs.Whole.{checks}
+use Rattle.table.proofs.Whole.{base-fits, some-node}
 use Rattle.table.proofs.check.check.Goals as goal
 
-pub returns-then-s-ne-NONE : goal.returns-then-s-ne-NONE
+pub returns-in_err-shape_fault : goal.returns-in_err-shape_fault
 unfolding check_of
-returns-then-s-ne-NONE c = search checks
+returns-in_err-shape_fault c = stopped _ c.shape_fault.ensures c.in_err-shape_fault.was c.from_residual.ensures.1
 
-pub returns-then-l-ne-NONE : goal.returns-then-l-ne-NONE
+pub returns-in_err-layout_fault : goal.returns-in_err-layout_fault
 unfolding check_of
-returns-then-l-ne-NONE c = search checks
+returns-in_err-layout_fault c =
+    pass c.shape_fault.ensures c.in_ok-shape_fault.was
+    (stopped _ c.layout_fault.ensures c.in_err-layout_fault.was c.from_residual-in_err-layout_fault.ensures.1)
 
 pub overflow_add-base : goal.overflow_add-base
-unfolding check_of
-overflow_add-base c = search checks
+overflow_add-base c = base-fits _ _ c.layout_fault.ensures c.in_ok-layout_fault.was
 
-pub returns-then-d-ne-NONE : goal.returns-then-d-ne-NONE
+pub returns-in_err-dest_fault : goal.returns-in_err-dest_fault
 unfolding check_of
-returns-then-d-ne-NONE c = search checks depth 9
+returns-in_err-dest_fault c =
+    pass c.shape_fault.ensures c.in_ok-shape_fault.was
+    (pass c.layout_fault.ensures c.in_ok-layout_fault.was
+    (stopped _ c.dest_fault.ensures c.in_err-dest_fault.was c.from_residual-in_err-dest_fault.ensures.1))
 
-pub returns-then-n-ne-NONE : goal.returns-then-n-ne-NONE
+pub returns-in_err-nodes_fault : goal.returns-in_err-nodes_fault
 unfolding check_of
-returns-then-n-ne-NONE c = search checks depth 9
+returns-in_err-nodes_fault c =
+    pass c.shape_fault.ensures c.in_ok-shape_fault.was
+    (pass c.layout_fault.ensures c.in_ok-layout_fault.was
+    (pass c.dest_fault.ensures c.in_ok-dest_fault.was
+    (stopped _ c.nodes_fault.ensures c.in_err-nodes_fault.was c.from_residual-in_err-nodes_fault.ensures.1)))
 
 pub last_fault-requires : goal.last_fault-requires
-unfolding check_of
-last_fault-requires c = search checks
+last_fault-requires c = some-node _ c.shape_fault.ensures c.in_ok-shape_fault.was
 
 pub returns : goal.returns
 unfolding check_of
-returns c = search checks depth 9
+returns c =
+    pass c.shape_fault.ensures c.in_ok-shape_fault.was
+    (pass c.layout_fault.ensures c.in_ok-layout_fault.was
+    (pass c.dest_fault.ensures c.in_ok-dest_fault.was (pass c.nodes_fault.ensures c.in_ok-nodes_fault.was c.last_fault.ensures)))

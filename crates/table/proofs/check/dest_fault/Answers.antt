@@ -5,12 +5,6 @@ use Rattle.table.proofs.check.dest_fault.Goals as goal
 
 ruleset laws = (parts, rules)
 
-pub enum_told-1 : goal.enum_told-1
-enum_told-1 c = search laws
-
-pub enum_known-dest : goal.enum_known-dest
-enum_known-dest c = search laws
-
 pub returns-in-None : goal.returns-in-None
 returns-in-None c = search laws
 

@@ -1,5 +1,4 @@
 -- `check::leaf_right` meets its contract: a leaf covers itself.
-use borrow.Author.Rules.{rules}
 use Rattle.table.proofs.Rights.{rights}
 use Rattle.table.proofs.check.leaf_right.Goals as goal
 

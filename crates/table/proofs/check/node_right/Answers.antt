@@ -1,5 +1,4 @@
 -- `check::node_right` meets its contract: by the kind, a leaf, or a node of which one child is left to look at.
-use borrow.Author.Rules.{rules}
 use Rattle.table.proofs.Rights.{rights}
 use Rattle.table.proofs.check.node_right.Goals as goal
 

@@ -1,25 +1,26 @@
 -- `check::nodes_fault` meets its contract. The invariant: the nodes passed have no fault, and the last of them has the first and the depth that are kept.
-use mathlib.Core.Path.{◌≡◌, refl}
-use Prim.Native.Nat.{◌-◌, ◌≤◌}
+use mathlib.Core.Path.{refl}
 use native.Mathlib.Omega.{arith}
 use borrow.Author.Rules.{rules}
-use Rattle.table.specs.Table.{nodes_fault, node_count}
-use Rattle.table.specs.Nodes.{Last}
-use Rattle.table.proofs.Nodes.{passes}
+use Rattle.table.specs.Table.{nodes_fault}
+use Rattle.table.proofs.Nodes.{passes, some-fault}
 use Rattle.table.proofs.Rights.{loops, last-zero}
 use Rattle.table.proofs.check.nodes_fault.Goals as goal
+
+ruleset laws = (passes, loops, rules)
 
 pub loop-i-init : goal.loop-i-init
 unfolding nodes_fault
 loop-i-init c = (omega arith, refl, last-zero _)
 
-pub node_fault-f-requires : goal.node_fault-f-requires
+pub node_fault-requires : goal.node_fault-requires
 unfolding nodes_fault
-node_fault-f-requires c = search loops
+node_fault-requires c = search laws
 
-pub returns-then-f-ne-NONE : goal.returns-then-f-ne-NONE
+pub returns-in_err-node_fault : goal.returns-in_err-node_fault
 unfolding nodes_fault
-returns-then-f-ne-NONE c = search passes
+returns-in_err-node_fault c =
+    some-fault _ _ _ c.loop-i.invariant.1 c.loop-i-test.true c.node_fault.ensures c.in_err-node_fault.was c.from_residual.ensures.1
 
 pub overflow_add-i : goal.overflow_add-i
 unfolding nodes_fault
@@ -31,8 +32,8 @@ loop-i-smaller c = omega arith
 
 pub loop-i-preserved : goal.loop-i-preserved
 unfolding nodes_fault
-loop-i-preserved c = (omega arith, search passes, search loops)
+loop-i-preserved c = (omega arith, search laws, search laws)
 
 pub returns : goal.returns
 unfolding nodes_fault
-returns c = search passes
+returns c = search laws

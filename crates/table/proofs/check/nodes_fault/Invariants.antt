@@ -1,12 +1,9 @@
 -- `check::nodes_fault` meets its contract. The invariant: the nodes passed have no fault, and the last of them has the first and the depth that are kept.
-use mathlib.Core.Path.{◌≡◌, refl}
+use Rattle.std.specs.Prelude.{Ok}
+use mathlib.Core.Path.{◌≡◌}
 use Prim.Native.Nat.{◌-◌, ◌≤◌}
-use native.Mathlib.Omega.{arith}
-use borrow.Author.Rules.{rules}
 use Rattle.table.specs.Table.{nodes_fault, node_count}
 use Rattle.table.specs.Nodes.{Last}
-use Rattle.table.proofs.Nodes.{passes}
-use Rattle.table.proofs.Rights.{loops, last-zero}
 use Rattle.table.proofs.check.nodes_fault.Given as goal
 
 abbrev pub invariant-loop-i : goal.invariant-loop-i

@@ -5,12 +5,6 @@ use Rattle.table.proofs.check.span_fault.Goals as goal
 
 ruleset laws = (parts, rules)
 
-pub enum_told-1 : goal.enum_told-1
-enum_told-1 c = search laws
-
-pub enum_known-s : goal.enum_known-s
-enum_known-s c = search laws
-
 pub returns-then-f-e : goal.returns-then-f-e
 returns-then-f-e c = search laws
 
@@ -23,8 +17,8 @@ overflow_sub-d c = search laws
 pub returns-then-d-g : goal.returns-then-d-g
 returns-then-d-g c = search laws
 
-pub returns-in-Missing : goal.returns-in-Missing
-returns-in-Missing c = search laws
+pub returns-in-None : goal.returns-in-None
+returns-in-None c = search laws
 
 pub returns-else-d-g : goal.returns-else-d-g
 returns-else-d-g c = search laws

@@ -1,5 +1,4 @@
 -- `check::three_right` meets its contract: past two children the first is left.
-use borrow.Author.Rules.{rules}
 use Rattle.table.proofs.Rights.{right-false, three-over}
 use Rattle.table.proofs.check.three_right.Goals as goal
 

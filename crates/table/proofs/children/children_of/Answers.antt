@@ -1,8 +1,4 @@
 -- `children::children_of` meets its contract. The invariant: what is left to cover gives the answer.
-use mathlib.Core.Path.{◌≡◌}
-use Prim.Native.Nat.{◌≤◌}
-use borrow.Author.Rules.{rules}
-use Rattle.table.specs.Table.{children}
 use Rattle.table.proofs.Nodes.{turns}
 use Rattle.table.proofs.children.children_of.Goals as goal
 

@@ -1,8 +1,6 @@
 -- `complete::complete` meets its contract. The invariant: the nodes below i are complete.
-use Prim.Native.Nat.{◌-◌}
-use Rattle.table.specs.Table.{node_count}
 use native.Mathlib.Omega.{arith}
-use Rattle.table.proofs.complete.Laws.{Passed, passes, below_of, shallow-of}
+use Rattle.table.proofs.complete.Laws.{passes, below_of, shallow-of}
 use Rattle.table.proofs.complete.complete.Goals as goal
 
 pub loop-i-init : goal.loop-i-init

@@ -1,8 +1,7 @@
 -- `complete::complete` meets its contract. The invariant: the nodes below i are complete.
 use Prim.Native.Nat.{◌-◌}
 use Rattle.table.specs.Table.{node_count}
-use native.Mathlib.Omega.{arith}
-use Rattle.table.proofs.complete.Laws.{Passed, passes, below_of, shallow-of}
+use Rattle.table.proofs.complete.Laws.{Passed}
 use Rattle.table.proofs.complete.complete.Given as goal
 
 abbrev pub invariant-loop-i : goal.invariant-loop-i

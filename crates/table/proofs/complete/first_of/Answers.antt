@@ -2,14 +2,8 @@
 use Rattle.table.proofs.complete.Laws.{spans}
 use Rattle.table.proofs.complete.first_of.Goals as goal
 
-pub enum_told-1 : goal.enum_told-1
-enum_told-1 c = search spans
+pub returns-in-None : goal.returns-in-None
+returns-in-None c = search spans
 
-pub enum_known-s : goal.enum_known-s
-enum_known-s c = search spans
-
-pub returns-in-Missing : goal.returns-in-Missing
-returns-in-Missing c = search spans
-
-pub returns-in-Between : goal.returns-in-Between
-returns-in-Between c = search spans
+pub returns-in-Some : goal.returns-in-Some
+returns-in-Some c = search spans
