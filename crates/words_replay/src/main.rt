@@ -2,10 +2,9 @@
 #![tactic(auto)]
 
 use faults::Fault;
-use insns::op::Op;
-use insns::fields::{HALF_16, HALF_32, SIZE_8, SIZE_16, SIZE_32};
-use insns::op::{Disp, Imm16, Imm40};
 use insns::Insn;
+use insns::fields::{HALF_16, HALF_32, SIZE_8, SIZE_16, SIZE_32};
+use insns::op::{Disp, Imm16, Imm40, Op};
 use operands::of_op::{PlainOp, plain_op};
 use std::io;
 use std::io::{Read, Write};
@@ -272,7 +271,7 @@ fn replay_patch<W: Write>(
     mut store: [u64; 4],
 ) -> io::Result<()> {
     let p = patch_in(&mut store, n, at, target);
-    replay_io::write_word(output, wide(decode::patch::number_of(p)))?;
+    replay_io::write_word(output, wide(faults::number_of(p)))?;
     replay_io::write_words(output, &store)?;
     replay_io::write_word(output, 0)?;
     replay_io::write_word(output, 0)?;
