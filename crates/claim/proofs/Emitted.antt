@@ -1,5 +1,5 @@
 -- The machine runs nop and the opcodes that the generator emits, no other; and each of them is emitted, by a small table that is compiled here.
-use Rattle.std.specs.Prelude.{Option, Some, None}
+use Rattle.std.specs.Prelude.{Option, Some, None, Ok, Err}
 use mathlib.Core.Path.{◌≡◌, refl, sym, ap, subst, ◌∙◌}
 use mathlib.Core.Bool.{Bool, true, false, not, ◌&&◌, ◌||◌}
 use mathlib.Core.List.{List, [], ◌∷◌, ◌++◌}
@@ -10,6 +10,7 @@ use lib.ListN.{length, get_or}
 use borrow.Author.Tests.{ltb-true, ltb-false, leb-true, lt-leb, eqb-true, eqb-false}
 use Rattle.faults.specs.Limits.{max_registers}
 use Rattle.faults.specs.Faults as Faults
+use Rattle.faults.specs.Faults.{Checked, none}
 use Rattle.value.specs.Answer.{Answer}
 use Rattle.table.specs.Table.{check_of}
 use Rattle.table.specs.Table as Table
@@ -153,9 +154,17 @@ record Sample : Type 0 where
 abbrev code : Sample → List ℕ
 code x = words_of (frag_of x.table 2 0 x.dest).code
 
+passes : Checked → Bool
+passes (Ok tt) = true
+passes (Err f) = false
+
+passes-none : (c : Checked) → passes c ≡ true → c ≡ none
+passes-none (Ok tt) h = refl
+passes-none (Err f) h = absurd (cc)
+
 test : Sample → Bool
 test x =
-    eqb (check_of x.table 2 0 x.dest) 0 && leb (needed x.table 2).registers max_registers && ltb x.at (length (code x))
+    passes (check_of x.table 2 0 x.dest) && leb (needed x.table 2).registers max_registers && ltb x.at (length (code x))
     && eqb (get_or (code x) x.at 0 % 256) x.op
 
 shows : (x : Sample) → test x ≡ true → EmittedBySome x.op
@@ -167,7 +176,7 @@ shows x h =
     let need = needed x.table 2 in
     let y =
     (refusals x.table 2 0 x.dest need.places need.words need.slots
-    ).accepts (eqb-true _ 0 t.0) (record { slots = omega arith; words = omega arith; places = omega arith }) (leb-true _ max_registers t.1) in
+    ).accepts (passes-none _ t.0) (record { slots = omega arith; words = omega arith; places = omega arith }) (leb-true _ max_registers t.1) in
     let a : Accepted x.table 2 0 x.dest y.0.0 y.0.1 = record { places = need.places; cap = need.words; slot_cap = need.slots; is = y.1 } in
     let k = known x.table 2 0 x.dest y.0.0 y.0.1 a in
     let e : code x ≡ y.0.1.words = ap (λ (c : ℕ × State). c.1.words) k.is in

@@ -108,10 +108,10 @@ module _ (nodes : List ℕ) (params locals : ℕ) (dest : Option ℕ) {c k p : �
 
   pub refused-whole :
       {n : Fault} → Compiles q (compile_of nodes params locals dest max_nodes c (min k p)) code sks sps c k p → q ≡ Err n → res ≡ evaluate_of nodes params locals ks ps →
-      Whole nodes params locals dest c k p ks ps budget (Err n) code sks sps res (out (ran n 0 0) ks ps)
+      Whole nodes params locals dest c k p ks ps budget (Err n) code sks sps res (out (ran (Err n) 0 0) ks ps)
   refused-whole {n} h e i = rw (sym e) (go (compile_of nodes params locals dest max_nodes c (min k p)) refl h)
     where
-      go : (m : Res (ℕ × State)) → m ≡ compile_of nodes params locals dest max_nodes c (min k p) → Compiles q m code sks sps c k p → Whole nodes params locals dest c k p ks ps budget q code sks sps res (out (ran n 0 0) ks ps)
+      go : (m : Res (ℕ × State)) → m ≡ compile_of nodes params locals dest max_nodes c (min k p) → Compiles q m code sks sps c k p → Whole nodes params locals dest c k p ks ps budget q code sks sps res (out (ran (Err n) 0 0) ks ps)
       go (done x) is h = let z : ◌≡◌ {A = ℕ} 0 1 = cc (h.answer, e) in absurd (omega arith)
       go (fail f) is h =
           let z : n ≡ f = cc (h.answer, e) in

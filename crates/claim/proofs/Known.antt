@@ -1,5 +1,7 @@
 -- What compiling a table gives: its tree's fragment, which takes no more than the table needs; or a refusal, and then something is lacking.
-use Rattle.std.specs.Prelude.{Option, Some, None}
+use Rattle.std.specs.Prelude.{Option, Some, None, Result, Ok, Err}
+use Rattle.faults.specs.declared.Fault.{Fault}
+use Rattle.faults.specs.Numbers.{not_local}
 use mathlib.Core.Path.{◌≡◌, refl, sym, ap, subst, ◌∙◌}
 use mathlib.Core.List.{List, []}
 use Prim.Native.Nat.{ℕ, zero, suc, ◌+◌, ◌-◌, ◌*◌, ◌≤◌, ◌<◌, ◌^◌, max}
@@ -7,7 +9,7 @@ use native.Mathlib.Omega.{arith}
 use lib.Dec.{leb}
 use lib.ListN.{length}
 use borrow.Author.Tests.{leb-false}
-use Rattle.faults.specs.Faults.{◌or_else◌}
+use Rattle.faults.specs.Faults.{none, ◌or_else◌}
 use Rattle.faults.specs.Limits.{max_registers}
 use Rattle.faults.proofs.Faults.{none_both, failed}
 use Rattle.table.specs.Table.{node_count, depth_at, temp_base_of, shape_fault, layout_fault, dest_fault, nodes_fault, last_fault, check_of}
@@ -59,9 +61,9 @@ root-met need room cap slot_cap near named t (Some d) base n h up top low ah =
 -- ---- a table that the check accepts
 
 pub check-parts :
-    (ws : List ℕ) (params locals : ℕ) (dest : Option ℕ) → check_of ws params locals dest ≡ Ok tt →
-    (shape_fault ws ≡ Ok tt) × (layout_fault params locals ≡ Ok tt) × (dest_fault dest (params + locals) ≡ Ok tt)
-    × (nodes_fault ws (params + locals) (node_count ws) or_else last_fault ws ≡ Ok tt)
+    (ws : List ℕ) (params locals : ℕ) (dest : Option ℕ) → check_of ws params locals dest ≡ none →
+    (shape_fault ws ≡ none) × (layout_fault params locals ≡ none) × (dest_fault dest (params + locals) ≡ none)
+    × (nodes_fault ws (params + locals) (node_count ws) or_else last_fault ws ≡ none)
 unfolding check_of
 check-parts ws params locals dest h =
     let a = none_both (shape_fault ws) _ h in
@@ -69,10 +71,10 @@ check-parts ws params locals dest h =
     let c = none_both (dest_fault dest (params + locals)) _ b.1 in
     (a.0, b.0, c.0, c.1)
 
-dest-low : (dest : Option ℕ) (base : ℕ) → dest_fault dest base ≡ Ok tt → DestLow dest base
+dest-low : (dest : Option ℕ) (base : ℕ) → dest_fault dest base ≡ none → DestLow dest base
 unfolding dest_fault
 dest-low None base h = tt
-dest-low (Some d) base h = leb-false base d (failed (leb base d) 3 h)
+dest-low (Some d) base h = leb-false base d (failed (leb base d) not_local h)
 
 pub record Checked (ws : List ℕ) (params locals : ℕ) (dest : Option ℕ) : Type 0 where
   pub refs : RefsBelow (params + locals) (tree ws (node_count ws - 1))
@@ -86,7 +88,7 @@ pub record Checked (ws : List ℕ) (params locals : ℕ) (dest : Option ℕ) : T
   pub near : 4 * node_count ws ≤ far
   pub named : literals ws (node_count ws) ≤ 2 ^ 32
 
-pub checked : (ws : List ℕ) (params locals : ℕ) (dest : Option ℕ) → check_of ws params locals dest ≡ Ok tt → Checked ws params locals dest
+pub checked : (ws : List ℕ) (params locals : ℕ) (dest : Option ℕ) → check_of ws params locals dest ≡ none → Checked ws params locals dest
 checked ws params locals dest h =
     let a = Table.accepted ws params locals dest h in
     let last = node_count ws - 1 in
@@ -121,16 +123,16 @@ table-met ws params locals dest room cap slot_cap c =
 
 -- ---- what is accepted is checked, and is the fragment
 
-check-made : (n : ℕ) {m : Res (ℕ × State)} {c : ℕ × State} → accepted n m ≡ done c → (n ≡ 0) × (m ≡ done c)
-check-made zero h = (refl, h)
-check-made (suc n) h = let z : ◌≡◌ {A = ℕ} 0 1 = cc in absurd (omega arith)
+check-made : (n : Result (Unit {0}) Fault) {m : Res (ℕ × State)} {c : ℕ × State} → accepted n m ≡ done c → (n ≡ none) × (m ≡ done c)
+check-made (Ok tt) h = (refl, h)
+check-made (Err f) h = let z : ◌≡◌ {A = ℕ} 0 1 = cc in absurd (omega arith)
 
-met-is : {W : ℕ → Type 0} {x : Res (ℕ × State)} {a c : ℕ × State} {P : Type 0} → Met W x a P → x ≡ done c → (a ≡ c) × P
+met-is : {W : Fault → Type 0} {x : Res (ℕ × State)} {a c : ℕ × State} {P : Type 0} → Met W x a P → x ≡ done c → (a ≡ c) × P
 met-is {a} {c} (met e p) f = let w : a ≡ c = cc in (w, p)
 met-is (refused n e h) f = let z : ◌≡◌ {A = ℕ} 0 1 = cc in absurd (omega arith)
 
 pub record Known (ws : List ℕ) (params locals : ℕ) (dest : Option ℕ) (cap slot_cap r : ℕ) (s : State) : Type 0 where
-  pub check : check_of ws params locals dest ≡ Ok tt
+  pub check : check_of ws params locals dest ≡ none
   pub is : made cap slot_cap (temp_base_of (params + locals)) (frag_of ws params locals dest) ≡ (r, s)
   pub fine : FineI (needs (tree ws (node_count ws - 1))) (temp_base_of (params + locals)) (frag_of ws params locals dest)
 

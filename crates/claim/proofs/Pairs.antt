@@ -78,8 +78,8 @@ module _ (ks₀ ps₀ ws sks sps : List ℕ) (ss : List Datum) (m : Lends sks sp
       ((p : ℕ) (ks ps : List ℕ) (rs : List Datum) → Wide ks₀ ps₀ ks ps rs → Same ks₀ ps₀ (run_from ws sks sps n (suc s) p ks ps) (values_from ws ss n (suc s) p rs)) →
       (x : Next) → Put (length rs) x →
       Same ks₀ ps₀
-      (elim (lent ks ps x) [ after r ks' ps' ↦ elim r [ Ok p ↦ run_from ws sks sps n (suc s) p ks' ps' | Err e ↦ out (ran e s at) ks' ps' ] ])
-      (elim x [ go p ↦ values_from ws ss n (suc s) p rs | put p d v ↦ values_from ws ss n (suc s) p (set rs d v) | stop e ↦ end (ran e s at) rs ])
+      (elim (lent ks ps x) [ after r ks' ps' ↦ elim r [ Ok p ↦ run_from ws sks sps n (suc s) p ks' ps' | Err e ↦ out (ran (Err e) s at) ks' ps' ] ])
+      (elim x [ go p ↦ values_from ws ss n (suc s) p rs | put p d v ↦ values_from ws ss n (suc s) p (set rs d v) | stop e ↦ end (ran (Err e) s at) rs ])
   turn n s at {ks} {ps} {rs} l again (go p) h = again p ks ps rs l
   turn n s at {ks} {ps} {rs} l again (put p d v) h = again p (set ks d (kind_of v)) (set ps d (payload_of v)) (set rs d v) (wide-set d v h.0 h.1 l)
   turn n s at {ks} {ps} {rs} l again (stop e) h = record { match = (refl, l) }

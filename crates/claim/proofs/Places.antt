@@ -1,5 +1,6 @@
 -- A jump list of half as many places as the table has nodes is enough: codegen's `enough`, said of compiling as a whole.
-use Rattle.std.specs.Prelude.{Option}
+use Rattle.std.specs.Prelude.{Option, Result, Ok, Err}
+use Rattle.faults.specs.declared.Fault.{Fault}
 use mathlib.Core.Path.{◌≡◌, refl, sym, ◌∙◌}
 use mathlib.Core.List.{List}
 use Prim.Native.Nat.{ℕ, zero, suc, ◌+◌, ◌-◌, ◌*◌, ◌≤◌}
@@ -16,7 +17,7 @@ unfolding compile_of
 places-enough ws params locals dest p q cap slot_cap hp hq = go (check_of ws params locals dest) refl
   where
     go :
-        (n : ℕ) → check_of ws params locals dest ≡ n →
+        (n : Result (Unit {0}) Fault) → check_of ws params locals dest ≡ n →
         accepted n (generated (tree ws (node_count ws - 1)) dest (params + locals) p cap slot_cap) ≡ accepted n (generated (tree ws (node_count ws - 1)) dest (params + locals) q cap slot_cap)
-    go (suc n) e = refl
-    go zero e = enough ws params locals dest p cap slot_cap e hp ∙ sym (enough ws params locals dest q cap slot_cap e hq)
+    go (Err f) e = refl
+    go (Ok tt) e = enough ws params locals dest p cap slot_cap e hp ∙ sym (enough ws params locals dest q cap slot_cap e hq)

@@ -1,13 +1,15 @@
 -- A compile takes no more than `needed`, and is refused for its table or for want of that much alone.
-use Rattle.std.specs.Prelude.{Option, Some, None}
+use Rattle.std.specs.Prelude.{Option, Some, None, Ok, Err}
 use mathlib.Core.Path.{◌≡◌, refl, sym, ap, subst, ◌∙◌}
 use mathlib.Core.Bool.{Bool, true, false}
 use mathlib.Core.List.{List}
 use Prim.Native.Nat.{ℕ, zero, suc, ◌+◌, ◌-◌, ◌≤◌, ◌<◌, max}
 use native.Mathlib.Omega.{arith}
 use lib.ListN.{length}
-use Rattle.faults.specs.Faults.{fault, ◌or_else◌}
-use Rattle.faults.specs.Numbers.{bad_shape, no_register, no_room}
+use Rattle.faults.specs.declared.Fault.{Fault}
+use Rattle.faults.specs.declared.Fault.TheVariants as F
+use Rattle.faults.specs.Faults.{Checked, none, fault, ◌or_else◌}
+use Rattle.faults.specs.Numbers.{bad_shape, no_register, no_room, number, number_of}
 use Rattle.table.specs.Table.{node_count, kind_at, payload_at, first_at, depth_at, arity, temp_base_of, kind_fault, children, span_fault, limit_fault, node_fault, nodes_fault, shape_fault, layout_fault, dest_fault, last_fault, check_of}
 use Rattle.table.specs.Tree.{tree}
 use Rattle.emit.specs.State.{Res, done, fail, State}
@@ -16,27 +18,27 @@ use Rattle.claim.specs.Claim.{Accepted}
 use Rattle.claim.specs.Refusals.{Amounts, needed, lent, Takes, Lacks, register, slot, word, place, Enough, TableOrRegisters, table, registers, Refusals, RefusalsOf}
 use Rattle.claim.proofs.fragments.Steps.{Met, met, refused}
 use Rattle.claim.proofs.fragments.Whole.{words-length}
-use Rattle.claim.proofs.Known.{Checked, checked, made, frag_of, table-met, Known, known}
+use Rattle.claim.proofs.Known.{checked, made, frag_of, table-met, Known, known}
 
 -- ---- the check's number is 1 to 5
 
-fault-most : (t : Bool) {n m : ℕ} → n ≤ m → fault t n ≤ m
+fault-most : (t : Bool) {f : Fault} {m : ℕ} → number f ≤ m → number_of (fault t f) ≤ m
 unfolding fault
 fault-most true h = h
 fault-most false h = omega arith
 
-else-most : (a b : ℕ) {m : ℕ} → a ≤ m → b ≤ m → (a or_else b) ≤ m
+else-most : (a b : Checked) {m : ℕ} → number_of a ≤ m → number_of b ≤ m → number_of (a or_else b) ≤ m
 unfolding ◌or_else◌
-else-most zero b h k = k
-else-most (suc a) b h k = h
+else-most (Ok tt) b h k = k
+else-most (Err f) b h k = h
 
-span-most : (ws : List ℕ) (n e g f d : ℕ) → span_fault (children ws n e g) f d ≤ 5
+span-most : (ws : List ℕ) (n e g f d : ℕ) → number_of (span_fault (children ws n e g) f d) ≤ 5
 unfolding span_fault children
 span-most ws zero e g f d = else-most _ _ (fault-most _ (omega arith)) (fault-most _ (omega arith))
 span-most ws (suc n) zero g f d = omega arith
 span-most ws (suc n) (suc j) g f d = span-most ws n (first_at ws j) (max g (depth_at ws j)) f d
 
-nodes-most : (ws : List ℕ) (base n : ℕ) → nodes_fault ws base n ≤ 5
+nodes-most : (ws : List ℕ) (base n : ℕ) → number_of (nodes_fault ws base n) ≤ 5
 unfolding nodes_fault node_fault
 nodes-most ws base zero = omega arith
 nodes-most ws base (suc n) =
@@ -46,12 +48,12 @@ nodes-most ws base (suc n) =
     (else-most (span_fault (children ws (arity (kind_at ws n)) n 0) (first_at ws n) (depth_at ws n)) _ (span-most ws (arity (kind_at ws n)) n 0 (first_at ws n) (depth_at ws n))
     (else-most _ _ (fault-most _ (omega arith)) (fault-most _ (omega arith)))))
 
-dest-most : (dest : Option ℕ) (base : ℕ) → dest_fault dest base ≤ 5
+dest-most : (dest : Option ℕ) (base : ℕ) → number_of (dest_fault dest base) ≤ 5
 unfolding dest_fault
 dest-most None base = omega arith
 dest-most (Some r) base = fault-most _ (omega arith)
 
-check-most : (ws : List ℕ) (params locals : ℕ) (dest : Option ℕ) → check_of ws params locals dest ≤ 5
+check-most : (ws : List ℕ) (params locals : ℕ) (dest : Option ℕ) → number_of (check_of ws params locals dest) ≤ 5
 unfolding check_of shape_fault layout_fault last_fault
 check-most ws params locals dest =
     else-most (shape_fault ws) _ (else-most _ _ (fault-most _ (omega arith)) (else-most _ _ (fault-most _ (omega arith)) (fault-most _ (omega arith))))
@@ -59,28 +61,53 @@ check-most ws params locals dest =
     (else-most (dest_fault dest (params + locals)) _ (dest-most dest (params + locals))
     (else-most (nodes_fault ws (params + locals) (node_count ws)) _ (nodes-most ws (params + locals) (node_count ws)) (fault-most _ (omega arith)))))
 
+-- each number is 1 or more
+least : (f : Fault) → 1 ≤ number f
+least F.BadShape = omega arith
+least F.BadNode = omega arith
+least F.TooDeep = omega arith
+least F.NotLocal = omega arith
+least F.NoRegister = omega arith
+least F.NoSlot = omega arith
+least F.NoRoom = omega arith
+least F.TooFar = omega arith
+least F.NoFit = omega arith
+least F.Undecoded = omega arith
+least F.NotBranch = omega arith
+least F.NoWord = omega arith
+least F.WrongKind = omega arith
+least F.Overflow = omega arith
+least F.ModByZero = omega arith
+least F.NotExact = omega arith
+least F.BadShift = omega arith
+least F.BudgetSpent = omega arith
+least F.OutOfRange = omega arith
+least F.PanicWord = omega arith
+least F.NotRun = omega arith
+least F.IllFormed = omega arith
+
 -- ---- what is lacking
 
-lacks-number : {need has : Amounts} {e : ℕ} → Lacks need has e → (bad_shape ≤ e) × (e ≤ no_room)
+lacks-number : {need has : Amounts} {e : Fault} → Lacks need has e → (number bad_shape ≤ number e) × (number e ≤ number no_room)
 lacks-number (register h) = (omega arith, omega arith)
 lacks-number (slot h) = (omega arith, omega arith)
 lacks-number (word h) = (omega arith, omega arith)
 lacks-number (place h) = (omega arith, omega arith)
 
-only-registers : {need has : Amounts} {e : ℕ} → Enough need has → Lacks need has e → (e ≡ no_register) × (has.registers < need.registers)
+only-registers : {need has : Amounts} {e : Fault} → Enough need has → Lacks need has e → (e ≡ no_register) × (has.registers < need.registers)
 only-registers m (register h) = (refl, h)
 only-registers m (slot h) = absurd (omega arith)
 only-registers m (word h) = absurd (omega arith)
 only-registers m (place h) = absurd (omega arith)
 
-met-not : {W : ℕ → Type 0} {x : Res (ℕ × State)} {a : ℕ × State} {P : Type 0} {e : Fault} → Met W x a P → x ≡ fail e → W e
+met-not : {W : Fault → Type 0} {x : Res (ℕ × State)} {a : ℕ × State} {P : Type 0} {e : Fault} → Met W x a P → x ≡ fail e → W e
 met-not (met e p) f = let z : ◌≡◌ {A = ℕ} 0 1 = cc in absurd (omega arith)
 met-not {W} {e = e} (refused n g h) f = let z : n ≡ e = cc in subst W z h
 
 -- ---- the claim
 
 module _ (ws : List ℕ) (params locals : ℕ) (dest : Option ℕ) (places cap slot_cap : ℕ) where
-  abbrev check : ℕ
+  abbrev check : Checked
   check = check_of ws params locals dest
 
   abbrev need : Amounts
@@ -102,28 +129,28 @@ module _ (ws : List ℕ) (params locals : ℕ) (dest : Option ℕ) (places cap s
       subst (λ (x : ℕ × State). Takes need x.1) k.is
       (record { frame = omega arith; slots = omega arith; words = omega (arith, words-length F.code) })
 
-  lacks-by : (e : Fault) → check ≡ Ok tt → compile_of ws params locals dest places cap slot_cap ≡ fail e → Lacks need has e
+  lacks-by : (e : Fault) → check ≡ none → compile_of ws params locals dest places cap slot_cap ≡ fail e → Lacks need has e
   unfolding compile_of
-  lacks-by e h f = met-not (table-met ws params locals dest places cap slot_cap (checked ws params locals dest h)) (ap (λ (k : ℕ). accepted k gives) (sym h) ∙ f)
+  lacks-by e h f = met-not (table-met ws params locals dest places cap slot_cap (checked ws params locals dest h)) (ap (λ (k : Checked). accepted k gives) (sym h) ∙ f)
 
-  accepts-by : check ≡ Ok tt → Enough need has → need.registers ≤ has.registers → (x : ℕ × State) × (compile_of ws params locals dest places cap slot_cap ≡ done x)
+  accepts-by : check ≡ none → Enough need has → need.registers ≤ has.registers → (x : ℕ × State) × (compile_of ws params locals dest places cap slot_cap ≡ done x)
   unfolding compile_of
   accepts-by h m few = go (table-met ws params locals dest places cap slot_cap (checked ws params locals dest h))
     where
       go : {a : ℕ × State} {P : Type 0} → Met (Lacks need has) gives a P → (x : ℕ × State) × (accepted check gives ≡ done x)
-      go {a} (met e p) = (a, ap (λ (k : ℕ). accepted k gives) h ∙ e)
+      go {a} (met e p) = (a, ap (λ (k : Checked). accepted k gives) h ∙ e)
       go (refused n e l) = absurd (omega (arith, (only-registers m l).1))
 
   -- refused by the check, or for what is lacking
   either :
-      (P : ℕ → Type 0) (e : Fault) → ((n : ℕ) → check ≡ suc n → P (suc n)) → (Lacks need has e → P e) →
+      (P : Fault → Type 0) (e : Fault) → ((f : Fault) → check ≡ Err f → P f) → (Lacks need has e → P e) →
       compile_of ws params locals dest places cap slot_cap ≡ fail e → P e
   unfolding compile_of
   either P e by lacking f = go check refl f
     where
-      go : (n : ℕ) → check ≡ n → accepted n gives ≡ fail e → P e
-      go zero h g = lacking (met-not (table-met ws params locals dest places cap slot_cap (checked ws params locals dest h)) g)
-      go (suc n) h g = let z : suc n ≡ e = cc in subst P z (by n h)
+      go : (n : Checked) → check ≡ n → accepted n gives ≡ fail e → P e
+      go (Ok tt) h g = lacking (met-not (table-met ws params locals dest places cap slot_cap (checked ws params locals dest h)) g)
+      go (Err f) h g = let z : f ≡ e = cc in subst P z (by f h)
 
   pub refusals : RefusalsOf ws params locals dest places cap slot_cap
   refusals =
@@ -132,11 +159,12 @@ module _ (ws : List ℕ) (params locals : ℕ) (dest : Option ℕ) (places cap s
         lacks = lacks-by;
         enough =
             λ e m f.
-            either (TableOrRegisters check) e (λ n h. subst (λ (k : ℕ). TableOrRegisters check k) h table)
+            either (TableOrRegisters check) e (λ f h. table h)
             (λ l. subst (TableOrRegisters check) (sym (only-registers m l).0) registers) f;
         accepts = accepts-by;
         checks = check-most ws params locals dest;
         numbers =
             λ e f.
-            either (λ k. (bad_shape ≤ k) × (k ≤ no_room)) e (λ n h. (omega arith, omega (arith, check-most ws params locals dest))) lacks-number f;
+            either (λ k. (number bad_shape ≤ number k) × (number k ≤ number no_room)) e
+            (λ k h. (least k, omega (arith, check-most ws params locals dest, ap number_of h))) lacks-number f;
       }

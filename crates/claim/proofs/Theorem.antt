@@ -144,7 +144,7 @@ module _ (dest : Option ℕ) (base n : ℕ) (F : Vf) (ks ps sks sps : List ℕ) 
       record {
         outcome =
             record {
-              number = ap (λ (q : Ran). q.number) e ∙ told.0;
+              finished = ap (λ (q : Ran). q.end) e ∙ told.0;
               position = ap (λ (q : Ran). q.position) e ∙ told.1 ∙ sym len;
               value = record { kind = p.kind; payload = p.payload };
               chosen = chosen;
@@ -154,7 +154,7 @@ module _ (dest : Option ℕ) (base n : ℕ) (F : Vf) (ks ps sks sps : List ℕ) 
       }
   agrees cap slot_cap (fault x) o report rs' low chosen told left e w =
       let len : length (words_of F.code) ≡ length F.code = words-length F.code in
-      record { outcome = ap (λ (q : Ran). q.number) e ∙ told.0; steps = rw e (omega (arith, told.1)); kept = kept None o rs' tt w left }
+      record { outcome = ap (λ (q : Ran). q.end) e ∙ told.0; steps = rw e (omega (arith, told.1)); kept = kept None o rs' tt w left }
 
 -- ---- demand 3
 

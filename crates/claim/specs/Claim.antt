@@ -7,7 +7,8 @@
 --     what lay in the temporaries changes no answer                                                        `Alike`
 --
 -- `Demand3` says it of an accepted table, whatever is lent to the run within `Supplied`.
-use Rattle.std.specs.Prelude.{◌≢◌, ◌≡◌, true, List, ◌++◌, ℕ, ◌+◌, ◌≤◌, ◌<◌, ◌^◌, length, get_or, take, Option, Some, None}
+use Rattle.std.specs.Prelude.{◌≢◌, ◌≡◌, true, List, ◌++◌, ℕ, ◌+◌, ◌≤◌, ◌<◌, ◌^◌, length, get_or, take, Option, Some, None, Err}
+use Rattle.faults.specs.Faults.{none}
 use Rattle.value.specs.Value.{Datum, kind_of, payload_of, all_well, datums}
 use Rattle.value.specs.Answer.{Answer, is, fault}
 use Rattle.table.specs.Table.{temp_base_of}
@@ -43,14 +44,14 @@ InDest None r = Unit {0}
 InDest (Some d) r = r ≡ d
 
 pub record Ended (dest : Option ℕ) (r words : ℕ) (v : Datum) (o : Out) : Type 0 where
-  pub number : (reported o).number ≡ 0
+  pub finished : (reported o).end ≡ none
   pub position : (reported o).position ≡ words
   pub value : HasValue o r v
   pub chosen : InDest dest r
 
 abbrev pub Outcome : Option ℕ → ℕ → ℕ → Answer → Out → Type 0
 Outcome dest r words (is v) o = Ended dest r words v o
-Outcome dest r words (fault e) o = (reported o).number ≡ e
+Outcome dest r words (fault e) o = (reported o).end ≡ Err e
 
 -- ---- steps never exceed words; a step that stops is not counted, so with a fault they are fewer
 

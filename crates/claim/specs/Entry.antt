@@ -1,6 +1,7 @@
 -- Plumbing: what the contracts of `agree`'s two routines cite, which carry demand 3 to what is shipped.
 use Rattle.faults.specs.declared.Fault.{Fault}
-use Rattle.std.specs.Prelude.{◌≡◌, true, List, ℕ, ◌+◌, ◌≤◌, min, length, Option, Result}
+use Rattle.std.specs.Prelude.{◌≡◌, true, List, ℕ, ◌+◌, ◌≤◌, min, length, Option, Result, Err}
+use Rattle.faults.specs.Faults.{Checked, none}
 use Rattle.faults.specs.Limits.{max_nodes}
 use Rattle.value.specs.Value.{all_well}
 use Rattle.value.specs.Answer.{Answer}
@@ -27,10 +28,10 @@ pub record Promised (nodes : List ℕ) (params locals : ℕ) (words sks sps ks p
 
 -- ---- one call that compiles a table, evaluates it and runs its words
 
--- The run, by what compiling gives: of an accepted table all its words, from word 0; of a refused one the number, no step, and the registers as they were.
+-- The run, by what compiling gives: of an accepted table all its words, from word 0; of a refused one the fault, no step, and the registers as they were.
 abbrev pub run_after : Res (ℕ × State) → List ℕ → List ℕ → ℕ → List ℕ → List ℕ → Out
 run_after (done x) sks sps budget ks ps = run_of x.1.words sks sps budget 0 ks ps
-run_after (fail n) sks sps budget ks ps = out (ran n 0 0) ks ps
+run_after (fail f) sks sps budget ks ps = out (ran (Err f) 0 0) ks ps
 
 -- what 01 asks of the registers and the budget: every pair a value, room for the frame, a step for each word
 pub record Premises (s : State) (ks ps : List ℕ) (budget : ℕ) : Type 0 where
@@ -39,9 +40,9 @@ pub record Premises (s : State) (ks ps : List ℕ) (budget : ℕ) : Type 0 where
   pub steps : length s.words ≤ budget
 
 -- An accepted table: the run agrees with the tree. A refused one whose check passed: less is lent than it needs.
-abbrev pub Compared : Option ℕ → ℕ → Amounts → Amounts → ℕ → Res (ℕ × State) → List ℕ → List ℕ → ℕ → Answer → Out → Type 0
+abbrev pub Compared : Option ℕ → ℕ → Amounts → Amounts → Checked → Res (ℕ × State) → List ℕ → List ℕ → ℕ → Answer → Out → Type 0
 Compared dest base need has check (done x) ks ps budget res o = Premises x.1 ks ps budget → Agrees dest base x.0 x.1 ks ps res o
-Compared dest base need has check (fail n) ks ps budget res o = check ≡ Ok tt → Lacks need has n
+Compared dest base need has check (fail f) ks ps budget res o = check ≡ none → Lacks need has f
 
 -- Lent: nodes, room for c words, k kinds and p payloads of constants, registers ks, ps, and a budget.
 -- Given back: compile's answer q, with the words and constants that it left; the tree's answer res; the run's report and registers, o.

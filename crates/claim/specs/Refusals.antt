@@ -1,7 +1,9 @@
 -- How much a compile takes at most, and that it is refused for its table or for want of that much alone: 01's numbers 1 to 7, and no other.
-use Rattle.std.specs.Prelude.{◌≡◌, cond, List, ℕ, zero, suc, ◌+◌, ◌-◌, ◌*◌, ◌/◌, ◌≤◌, ◌<◌, eqb, length, Option}
+use Rattle.std.specs.Prelude.{◌≡◌, cond, List, ℕ, zero, suc, ◌+◌, ◌-◌, ◌*◌, ◌/◌, ◌≤◌, ◌<◌, eqb, length, Option, Err}
 use Rattle.faults.specs.Limits.{max_registers}
-use Rattle.faults.specs.Numbers.{bad_shape, no_register, no_slot, no_room}
+use Rattle.faults.specs.declared.Fault.{Fault}
+use Rattle.faults.specs.Faults.{Checked, none}
+use Rattle.faults.specs.Numbers.{bad_shape, no_register, no_slot, no_room, number, number_of}
 use Rattle.table.specs.Table.{node_count, kind_at, depth_at, temp_base_of, check_of}
 use Rattle.emit.specs.State.{Res, done, fail, State}
 use Rattle.compile.specs.Compile.{compile_of}
@@ -47,7 +49,7 @@ pub record Takes (need : Amounts) (s : State) : Type 0 where
   pub words : length s.words ≤ need.words
 
 -- what a checked table can be refused for: 5, 6 or 7, and then there is less than is needed
-pub data Lacks (need has : Amounts) : ℕ → Type 0 where
+pub data Lacks (need has : Amounts) : Fault → Type 0 where
   register : has.registers < need.registers → Lacks need has no_register
   slot : has.slots < need.slots → Lacks need has no_slot
   word : has.words < need.words → Lacks need has no_room
@@ -60,18 +62,18 @@ pub record Enough (need has : Amounts) : Type 0 where
   pub places : need.places ≤ has.places
 
 -- the table is at fault, or registers are lacking
-pub data TableOrRegisters (check : ℕ) : ℕ → Type 0 where
-  table : TableOrRegisters check check
+pub data TableOrRegisters (check : Checked) : Fault → Type 0 where
+  table : {f : Fault} → check ≡ Err f → TableOrRegisters check f
   registers : TableOrRegisters check no_register
 
--- a compile that gave m, of a table with this number of its check
-pub record Refusals (need has : Amounts) (check : ℕ) (m : Res (ℕ × State)) : Type 0 where
+-- a compile that gave m, of a table with this answer of its check
+pub record Refusals (need has : Amounts) (check : Checked) (m : Res (ℕ × State)) : Type 0 where
   pub takes : (r : ℕ) (s : State) → m ≡ done (r, s) → Takes need s
-  pub lacks : (e : Fault) → check ≡ Ok tt → m ≡ fail e → Lacks need has e
+  pub lacks : (e : Fault) → check ≡ none → m ≡ fail e → Lacks need has e
   pub enough : (e : Fault) → Enough need has → m ≡ fail e → TableOrRegisters check e
-  pub accepts : check ≡ Ok tt → Enough need has → need.registers ≤ has.registers → (x : ℕ × State) × (m ≡ done x)
-  pub checks : check ≤ no_register
-  pub numbers : (e : Fault) → m ≡ fail e → (bad_shape ≤ e) × (e ≤ no_room)
+  pub accepts : check ≡ none → Enough need has → need.registers ≤ has.registers → (x : ℕ × State) × (m ≡ done x)
+  pub checks : number_of check ≤ number no_register
+  pub numbers : (e : Fault) → m ≡ fail e → (number bad_shape ≤ number e) × (number e ≤ number no_room)
 
 abbrev pub RefusalsOf : List ℕ → ℕ → ℕ → Option ℕ → ℕ → ℕ → ℕ → Type 0
 RefusalsOf ws params locals dest places cap slot_cap =

@@ -17,7 +17,7 @@ with_counter c s = record { words = s.words; cap = s.cap; slots = s.slots; slot_
 -- a register and the counter after it; or the refusal
 abbrev pub taken : Result ℕ Fault → Regs → State → Res (ℕ × State)
 taken (Ok r) c s = done (r, with_counter c s)
-taken (Err n) c s = fail n
+taken (Err f) c s = fail f
 
 pub record SameCounter (vars : ℕ) (s : State) : Type 0 where
   pub starts : (cap slot_cap : ℕ) → counter_of vars (start cap slot_cap (temp_base_of vars)) ≡ fresh vars

@@ -17,14 +17,15 @@ use Rattle.emit.specs.State.{Res, done, fail, State}
 use Rattle.codegen.specs.Gen.{gen}
 use Rattle.compile.specs.Compile.{start, compile_of}
 use Rattle.machine.specs.Run.{Out, out, run_of}
-use Rattle.faults.specs.Numbers.{undecoded, not_branch, too_far}
+use Rattle.faults.specs.Numbers.{number}
+use Rattle.faults.specs.Numbers as Numbers
 
 -- ---- answers as numbers
 
 -- a compile of a table with so many parameters: 0, register, frame, number of slots, and the words; or the number of a refusal
 abbrev pub shown : Res (ℕ × State) → List ℕ
 shown (done x) = 0 ∷ x.0 ∷ x.1.frame ∷ length x.1.slots ∷ x.1.words
-shown (fail n) = n ∷ []
+shown (fail f) = number f ∷ []
 
 abbrev pub compiled : ℕ → List ℕ → List ℕ
 compiled params table = shown (compile_of table params 0 None 8 8 8)
@@ -32,7 +33,7 @@ compiled params table = shown (compile_of table params 0 None 8 8 8)
 -- the words of a test that jumps if false, of register 0
 abbrev pub shown_words : Res (List ℕ × State) → List ℕ
 shown_words (done x) = x.1.words
-shown_words (fail n) = n ∷ []
+shown_words (fail f) = number f ∷ []
 
 abbrev pub tested : Tree → List ℕ
 tested t = shown_words ((gen t).branch false 8 (start 8 8 1))
@@ -40,22 +41,20 @@ tested t = shown_words ((gen t).branch false 8 (start 8 8 1))
 -- an evaluation: 0, kind and payload; or the number of a fault
 abbrev pub valued : Answer → List ℕ
 valued (is v) = 0 ∷ kind_of v ∷ payload_of v ∷ []
-valued (fault n) = n ∷ []
+valued (fault f) = number f ∷ []
 
 -- a run of the words of such a compile, on these registers: its number, and the pair in the register
 abbrev pub ended : ℕ → Out → List ℕ
-ended r (out ran ks ps) = ran.number ∷ get_or ks r 0 ∷ get_or ps r 0 ∷ []
+ended r (out ran ks ps) = Numbers.number_of ran.end ∷ get_or ks r 0 ∷ get_or ps r 0 ∷ []
 
 abbrev pub ran : List ℕ → List ℕ → Res (ℕ × State) → List ℕ
 ran ks ps (done x) = ended x.0 (run_of x.1.words [] [] (length x.1.words) 0 ks ps)
-ran ks ps (fail n) = n ∷ []
+ran ks ps (fail f) = number f ∷ []
 
 -- a branch aimed from a position at a target: 0, or the number of a refusal
 abbrev pub aim : Result ℕ Fault → ℕ
 aim (Ok w) = 0
-aim (Err undecoded) = undecoded
-aim (Err not_branch) = not_branch
-aim (Err too_far) = too_far
+aim (Err f) = number f
 
 abbrev pub aimed : ℕ → ℕ → List ℕ
 aimed at target = aim (aim_word 0x33 at target) ∷ []
@@ -178,11 +177,11 @@ refused =
 -- the number alone
 abbrev pub number_of : Res (ℕ × State) → List ℕ
 number_of (done x) = 0 ∷ []
-number_of (fail n) = n ∷ []
+number_of (fail f) = number f ∷ []
 
 -- a report: number, steps, position
 abbrev pub report : Out → List ℕ
-report (out r ks ps) = r.number ∷ r.steps ∷ r.position ∷ []
+report (out r ks ps) = Numbers.number_of r.end ∷ r.steps ∷ r.position ∷ []
 
 abbrev pub unstarred : List (List ℕ × List ℕ)
 unstarred =

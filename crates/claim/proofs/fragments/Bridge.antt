@@ -97,7 +97,7 @@ module _ (need : Amounts) (room cap slot_cap : ℕ) (near : need.words ≤ far) 
   abbrev S : List ℕ → List Datum → ℕ → ℕ → State
   S = st cap slot_cap
 
-  abbrev Lack : ℕ → Type 0
+  abbrev Lack : Fault → Type 0
   Lack = Lacking need room cap slot_cap
 
   -- With p places left, the words c and the slots ks taken, and n the first free register, u more is within the whole.

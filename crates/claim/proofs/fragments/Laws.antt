@@ -1,5 +1,6 @@
 -- What folds and branches rest on, as laws over values: an immediate is its value, a mask word's mask is the literal that it was made of, an operator with a
 -- literal is the operator, a branch of the other sense is the opposite, and a mirrored comparison is the comparison.
+use Rattle.faults.specs.declared.Fault.{Fault}
 use mathlib.Core.Path.{◌≡◌, refl, sym, ap, ◌∙◌}
 use mathlib.Core.Bool.{Bool, true, false, cond, ◌&&◌}
 use Prim.Native.Nat.{ℕ, zero, suc, ◌+◌, ◌-◌, ◌*◌, ◌/◌, ◌%◌, ◌^◌, ◌≤◌, ◌<◌}
@@ -107,7 +108,7 @@ pub three-is : (o : Arith) (a b : Answer) → M.both (Forms.three_kind (three_of
 three-is o = both_is (Forms.three_kind (three_of o)) (E.arith_of o) (arith_is o)
 
 -- an operand's fault is handed on
-pub both_left : (k e : ℕ) (b : Answer) → M.both k (fault e) b ≡ fault e
+pub both_left : (k : ℕ) (e : Fault) (b : Answer) → M.both k (fault e) b ≡ fault e
 unfolding M.both
 both_left k e b = refl
 

@@ -1,4 +1,5 @@
 -- Instructions at a place among words, paths of the machine, and how runs are put one after the other. No tree is named here.
+use Rattle.faults.specs.declared.Fault.{Fault}
 use Rattle.std.specs.Prelude.{Option, Some, None}
 use mathlib.Core.Path.{◌≡◌, refl, ap, ◌∙◌, subst}
 use mathlib.Core.Bool.{Bool, true, false, cond}
@@ -22,11 +23,11 @@ use Rattle.codegen.specs.Gen.{same}
 use Rattle.claim.proofs.fragments.Shared.{Held}
 use Rattle.claim.proofs.fragments.Frag.{NotDst, DstLow, Vf, Bf, d_reg, d_next, d_need, jmp_by}
 
--- ---- what a test comes to: a Bool, or the number of a fault
+-- ---- what a test comes to: a Bool, or a fault
 
 pub data Truth : Type 0 where
   truth : Bool → Truth
-  wrong : ℕ → Truth
+  wrong : Fault → Truth
 
 abbrev pub test : Answer → Truth
 test (is nil) = wrong wrong_kind
@@ -125,7 +126,7 @@ path-then {m} (walk {n = k} e s f) g = rw suc-add (walk e s (path-then f g))
 path-then {m} (store {n = k} e s f) g = rw suc-add (store e s (path-then f g))
 
 -- the machine stops here
-abbrev pub Stops : List ℕ → List Datum → ℕ → List Datum → ℕ → Type 0
+abbrev pub Stops : List ℕ → List Datum → ℕ → List Datum → Fault → Type 0
 Stops C K p rs e = (i : Op) × Stands C p i × (step K (length C) p rs i ≡ stop e)
 
 -- ---- what a run leaves alone
@@ -153,7 +154,7 @@ pub record Runs (C : List ℕ) (W ls : List Datum) (b n need p top q : ℕ) (dst
   pub few : p + count ≤ top
   pub path : (K rs : List Datum) → Good W ls b n need K rs → (rs' : List Datum) × Path C K p rs count q rs' × Keep dst n need rs rs' × P rs'
 
-pub record Fails (C : List ℕ) (W ls : List Datum) (b n need p top e : ℕ) : Type 0 where
+pub record Fails (C : List ℕ) (W ls : List Datum) (b n need p top : ℕ) (e : Fault) : Type 0 where
   pub count : ℕ
   pub place : ℕ
   pub few : p + count < top

@@ -1,5 +1,6 @@
 -- Each form of fragment does what its operands' results say. Operands are fragments and results, never trees; operations are any functions of results
 -- that hand an operand's fault on.
+use Rattle.faults.specs.declared.Fault.{Fault}
 use Rattle.std.specs.Prelude.{Option, Some, None}
 use mathlib.Core.Path.{◌≡◌, refl, ap, ap₂, ◌∙◌, subst, sym}
 use mathlib.Core.Bool.{Bool, true, false, not, cond}
@@ -159,7 +160,7 @@ module _ (C : List ℕ) (W ls : List Datum) (b : ℕ) where
       N : ℕ
       N = max A.need B.need
 
-      failed : (p q m e : ℕ) (y : Answer) → y ≡ fault e → Runs.Fails C W ls b n N p m e → m ≤ q → VR dst n (max N (d_need dst n)) (d_reg dst n) p q y
+      failed : (p q m : ℕ) (e : Fault) (y : Answer) → y ≡ fault e → Runs.Fails C W ls b n N p m e → m ≤ q → VR dst n (max N (d_need dst n)) (d_reg dst n) p q y
       failed p q m e y w r le =
           subst (λ (y : Answer). VR dst n (max N (d_need dst n)) (d_reg dst n) p q y) (sym w) (Runs.fails_more C W ls b (omega arith) le r)
 
@@ -212,7 +213,7 @@ module _ (C : List ℕ) (W ls : List Datum) (b : ℕ) where
       N : ℕ
       N = max A.need B.need
 
-      failed : (p q m j e : ℕ) (y : Truth) → y ≡ wrong e → Runs.Fails C W ls b n N p m e → m ≤ q → BR sense n N p q j y
+      failed : (p q m j : ℕ) (e : Fault) (y : Truth) → y ≡ wrong e → Runs.Fails C W ls b n N p m e → m ≤ q → BR sense n N p q j y
       failed p q m j e y w r le = subst (λ (y : Truth). BR sense n N p q j y) (sym w) (Runs.fails_more C W ls b (omega arith) le r)
 
       go :

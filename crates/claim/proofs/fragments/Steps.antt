@@ -1,4 +1,5 @@
 -- The steps of the generator: each gives what is written here, or is refused because less is lent than is needed.
+use Rattle.faults.specs.declared.Fault.{Fault}
 use Rattle.std.specs.Prelude.{Option, Some, None}
 use mathlib.Core.Path.{◌≡◌, refl, sym, ap, subst}
 use mathlib.Core.Bool.{Bool, true, false, cond}
@@ -23,25 +24,25 @@ use Rattle.claim.proofs.fragments.Frag.{DstLow, d_reg, d_next, d_need}
 use Rattle.claim.proofs.fragments.Fits.{word as word_of, Fits, made}
 use Rattle.claim.proofs.fragments.Open.{patched}
 
--- ---- an answer that is `a`, and then P holds; or a refusal, and then W holds of its number
+-- ---- an answer that is `a`, and then P holds; or a refusal, and then W holds of its fault
 
-pub data Met {A : Type 0} (W : ℕ → Type 0) (x : Res A) (a : A) (P : Type 0) : Type 0 where
+pub data Met {A : Type 0} (W : Fault → Type 0) (x : Res A) (a : A) (P : Type 0) : Type 0 where
   met : x ≡ done a → P → Met W x a P
   refused : (e : Fault) → x ≡ fail e → W e → Met W x a P
 
 pub met-bind :
-    {A B P Q : Type 0} {W : ℕ → Type 0} (k : A → Res B) {x : Res A} {a : A} {c : B} → Met W x a P → (P → Met W (k a) c Q) → Met W (bind x k) c Q
+    {A B P Q : Type 0} {W : Fault → Type 0} (k : A → Res B) {x : Res A} {a : A} {c : B} → Met W x a P → (P → Met W (k a) c Q) → Met W (bind x k) c Q
 met-bind {Q} {W} k {a} {c} (met e p) m = subst (λ (y : Res _). Met W (bind y k) c Q) (sym e) (m p)
 met-bind k (refused n e h) m = refused n (ap (λ (y : Res _). bind y k) e) h
 
-pub met-eq : {A P : Type 0} {W : ℕ → Type 0} {x : Res A} {a b : A} → a ≡ b → Met W x a P → Met W x b P
+pub met-eq : {A P : Type 0} {W : Fault → Type 0} {x : Res A} {a b : A} → a ≡ b → Met W x a P → Met W x b P
 met-eq {P} {W} {x} e m = subst (λ (y : _). Met W x y P) e m
 
-pub met-then : {A P Q : Type 0} {W : ℕ → Type 0} {x : Res A} {a : A} → Met W x a P → (P → Q) → Met W x a Q
+pub met-then : {A P Q : Type 0} {W : Fault → Type 0} {x : Res A} {a : A} → Met W x a P → (P → Q) → Met W x a Q
 met-then (met e p) f = met e (f p)
 met-then (refused n e h) f = refused n e h
 
-met-cond : {A P : Type 0} {W : ℕ → Type 0} (t : Bool) (a : A) (e : Fault) → (t ≡ false → W e) → (t ≡ true → P) → Met W (cond t (done a) (fail e)) a P
+met-cond : {A P : Type 0} {W : Fault → Type 0} (t : Bool) (a : A) (e : Fault) → (t ≡ false → W e) → (t ≡ true → P) → Met W (cond t (done a) (fail e)) a P
 met-cond true a e h p = met refl (p refl)
 met-cond false a e h p = refused e refl (h refl)
 
@@ -64,7 +65,7 @@ pub record Taken (dst : Option ℕ) (n : ℕ) : Type 0 where
 
 -- ---- for what is needed in all, and what is lent: places, words and slots
 
-abbrev pub Lacking : Amounts → ℕ → ℕ → ℕ → ℕ → Type 0
+abbrev pub Lacking : Amounts → ℕ → ℕ → ℕ → Fault → Type 0
 Lacking need places cap slot_cap = Lacks need (lent places cap slot_cap)
 
 module _ {need : Amounts} {places cap slot_cap : ℕ} where
@@ -140,17 +141,17 @@ module _ {need : Amounts} {places cap slot_cap : ℕ} where
 -- ---- patches
 
 patched-met :
-    {W : ℕ → Type 0} {cap slot_cap : ℕ} (r : Patching) (d : ℕ) (c c' : List ℕ) (ks : List Datum) (n f : ℕ) → r ≡ patched c' →
+    {W : Fault → Type 0} {cap slot_cap : ℕ} (r : Patching) (d : ℕ) (c c' : List ℕ) (ks : List Datum) (n f : ℕ) → r ≡ patched c' →
     Met W (patched_d r d (st cap slot_cap c ks n f)) (d, st cap slot_cap c' ks n f) (Unit {0})
 unfolding patched_d
 patched-met r d c c' ks n f e = rw e (met refl tt)
 
 pub patch-met :
-    {W : ℕ → Type 0} {cap slot_cap : ℕ} (p d : ℕ) (c c' : List ℕ) (ks : List Datum) (n f : ℕ) → patch_of c p (length c) ≡ patched c' →
+    {W : Fault → Type 0} {cap slot_cap : ℕ} (p d : ℕ) (c c' : List ℕ) (ks : List Datum) (n f : ℕ) → patch_of c p (length c) ≡ patched c' →
     Met W (patch_d p d (st cap slot_cap c ks n f)) (d, st cap slot_cap c' ks n f) (Unit {0})
 patch-met p d c c' ks n f e = patched-met (patch_of c p (length c)) d c c' ks n f e
 
 pub patches-met :
-    {W : ℕ → Type 0} {cap slot_cap : ℕ} (js : List ℕ) (d : ℕ) (c c' : List ℕ) (ks : List Datum) (n f : ℕ) → patch_all c js (length c) ≡ patched c' →
+    {W : Fault → Type 0} {cap slot_cap : ℕ} (js : List ℕ) (d : ℕ) (c c' : List ℕ) (ks : List Datum) (n f : ℕ) → patch_all c js (length c) ≡ patched c' →
     Met W (patches_d js d (st cap slot_cap c ks n f)) (d, st cap slot_cap c' ks n f) (Unit {0})
 patches-met js d c c' ks n f e = patched-met (patch_all c js (length c)) d c c' ks n f e

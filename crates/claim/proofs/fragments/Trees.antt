@@ -1,4 +1,5 @@
 -- Every tree's fragment does what the tree's value says: peeking at literals, and the induction.
+use Rattle.faults.specs.declared.Fault.{Fault}
 use Rattle.std.specs.Prelude.{Option, Some, None}
 use Rattle.insns.specs.declared.op.Imm16.{Imm16}
 use mathlib.Core.Path.{◌≡◌, refl, sym, ap, ◌∙◌, subst}

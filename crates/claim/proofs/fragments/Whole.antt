@@ -1,5 +1,7 @@
 -- A path of the machine is its run, so that a sound fragment, alone among the words, runs to the tree's value or stops with its fault.
-use Rattle.std.specs.Prelude.{Option, None}
+use Rattle.std.specs.Prelude.{Option, None, Err}
+use Rattle.faults.specs.declared.Fault.{Fault}
+use Rattle.faults.specs.Faults.{none}
 use mathlib.Core.Path.{◌≡◌, refl, sym, ap, ◌∙◌, subst, subst₂}
 use mathlib.Core.List.{List, [], ◌∷◌, ◌++◌, append_assoc}
 use Prim.Native.Nat.{ℕ, zero, suc, ◌+◌, ◌-◌, ◌≤◌, ◌<◌}
@@ -60,11 +62,11 @@ unfolding values_from
 run_store C K k rs p q d s v i h f = rw (lt-ltb p (length C) h.inside, next-is C K rs p i h ∙ f, values_from) refl
 
 run-stop :
-    (C : List ℕ) (K : List Datum) (k : ℕ) (rs : List Datum) (p s e : ℕ) → Stops C K p rs e → values_from C K (suc k) s p rs ≡ end (ran e s p) rs
+    (C : List ℕ) (K : List Datum) (k : ℕ) (rs : List Datum) (p s : ℕ) (e : Fault) → Stops C K p rs e → values_from C K (suc k) s p rs ≡ end (ran (Err e) s p) rs
 unfolding values_from
 run-stop C K k rs p s e h = rw (lt-ltb p (length C) h.1.inside, next-is C K rs p h.0 h.1 ∙ h.2, values_from) refl
 
-run_end : (C : List ℕ) (K : List Datum) (k : ℕ) (rs : List Datum) (s : ℕ) → values_from C K k s (length C) rs ≡ end (ran 0 s (length C)) rs
+run_end : (C : List ℕ) (K : List Datum) (k : ℕ) (rs : List Datum) (s : ℕ) → values_from C K k s (length C) rs ≡ end (ran none s (length C)) rs
 unfolding values_from
 run_end C K zero rs s = rw (le-ltb (length C) (length C) (omega arith)) refl
 run_end C K (suc k) rs s = rw (le-ltb (length C) (length C) (omega arith)) refl
@@ -89,8 +91,8 @@ run-split C K {n} {q} {budget} {rs} {rs'} w le =
 
 -- what a run reports
 abbrev pub Told : Answer → ℕ → Ran → Type 0
-Told (is v) len r = (r.number ≡ 0) × (r.position ≡ len) × (r.steps ≤ len)
-Told (fault e) len r = (r.number ≡ e) × (r.steps < len)
+Told (is v) len r = (r.end ≡ none) × (r.position ≡ len) × (r.steps ≤ len)
+Told (fault e) len r = (r.end ≡ Err e) × (r.steps < len)
 
 -- and what it leaves
 abbrev pub Left : Option ℕ → ℕ → Vf → List Datum → List Datum → Answer → Type 0
@@ -112,7 +114,7 @@ fixed dst b n F ls (is v) r =
     let C = words_of F.code in
     let len : length C ≡ length F.code = words-length F.code in
     record {
-      report = ran 0 r.count (length F.code);
+      report = ran none r.count (length F.code);
       told = (refl, refl, omega (arith, r.few));
       all =
           λ K rs g budget le.
@@ -121,14 +123,14 @@ fixed dst b n F ls (is v) r =
             run-split C K x.1 (omega (arith, r.few))
                 ∙ ap (λ (q : ℕ). values_from C K (budget - r.count) r.count q x.0) (sym len)
                 ∙ run_end C K (budget - r.count) x.0 r.count
-                ∙ ap (λ (q : ℕ). end (ran 0 r.count q) x.0) len,
+                ∙ ap (λ (q : ℕ). end (ran none r.count q) x.0) len,
             (x.2, x.3),
           );
     }
 fixed dst b n F ls (fault e) r =
     let C = words_of F.code in
     record {
-      report = ran e r.count r.place;
+      report = ran (Err e) r.count r.place;
       told = (refl, omega (arith, r.few));
       all =
           λ K rs g budget le.
