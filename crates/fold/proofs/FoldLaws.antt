@@ -4,7 +4,7 @@ use Rattle.insns.specs.declared.op.Imm16.{Imm16}
 use mathlib.Core.Path.{◌≡◌, refl, sym, ap, ◌∙◌}
 use mathlib.Core.Bool.{Bool, true, false}
 use mathlib.Core.List.{List}
-use Prim.Native.Nat.{ℕ, ◌-◌, ◌<◌, ◌≤◌}
+use Prim.Native.Nat.{ℕ, ◌<◌, ◌≤◌}
 use native.Mathlib.Omega.{arith as numbers}
 use lib.Dec.{eqb, lit≤}
 use lib.IntN.{ℤ}
@@ -21,9 +21,7 @@ use Rattle.insns.specs.declared.op.Arith.{Arith as ImmArith}
 use Rattle.insns.specs.declared.op.Imm16.{Imm16 as Imm16s}
 use Rattle.insns.specs.declared.op.Arith.TheVariants.{Plus, Minus, Times}
 use Rattle.insns.specs.declared.op.Shift.{Shift}
-use Rattle.insns.specs.declared.op.Shift.TheVariants as Shift
 use Rattle.fold.specs.declared.Tail.{Tail}
-use Rattle.fold.specs.declared.Tail.TheVariants as Tail
 use Rattle.fold.specs.Literal.{bit_run, const_of, imm_of, amount_of, amount_lit}
 use Rattle.fold.specs.Fold.{shift_by, shifted_by, mask_fold, shift_fold, imm_fold, fold_by, fold_lit, minus_one, takes_shift}
 use Rattle.fold.specs.Nodes.{Operator, Operand, op_fold, left_of, operand_of}

@@ -10,7 +10,6 @@ use Rattle.table.specs.Tree.{Arith, bit_and, bit_or, bit_xor, lshift, rshift, ad
 use Rattle.insns.specs.declared.op.Arith.TheVariants.{Plus, Minus, Times}
 use Rattle.insns.specs.declared.op.Imm16.{Imm16 as Small}
 use Rattle.insns.specs.declared.op.Shift.TheVariants as Shift
-use Rattle.fold.specs.declared.Tail.TheVariants as Tail
 use Rattle.fold.specs.Literal.{bit_run, imm_of, amount_of}
 use Rattle.fold.specs.Fold.{mask_fold, shift_fold, imm_fold, fold_by, fold_lit}
 

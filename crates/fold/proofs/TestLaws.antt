@@ -5,7 +5,7 @@ use mathlib.Core.Path.{◌≡◌, refl, sym, ap, ◌∙◌}
 use mathlib.Core.Bool.{Bool}
 use mathlib.Core.List.{List}
 use mathlib.Core.Logic.{inl, inr}
-use Prim.Native.Nat.{ℕ, ◌-◌, ◌<◌, ◌≤◌}
+use Prim.Native.Nat.{ℕ, ◌<◌, ◌≤◌}
 use native.Mathlib.Omega.{arith as numbers}
 use borrow.Author.Tests.{le-leb, lt-leb}
 use Rattle.table.specs.Table.{kind_at, child1, child2}
@@ -16,7 +16,6 @@ use Rattle.table.proofs.Trees.{View, is_leaf, is-unary, is-binary, is-ternary, v
 use Rattle.insns.specs.declared.op.Cmp.{Cmp as JumpCmp}
 use Rattle.insns.specs.declared.op.Imm16.{Imm16 as Imm16s}
 use Rattle.fold.specs.declared.How.{How}
-use Rattle.fold.specs.declared.How.TheVariants as How
 use Rattle.fold.specs.Literal.{as_imm16}
 use Rattle.fold.specs.Opcodes.{mirror, branch_of}
 use Rattle.fold.specs.Fold.{one, compare_pick}

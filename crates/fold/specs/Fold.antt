@@ -8,11 +8,8 @@ use Rattle.insns.specs.declared.op.Two.TheVariants as Two
 use Rattle.insns.specs.declared.op.Arith.{Arith as ImmArith}
 use Rattle.insns.specs.declared.op.Arith.TheVariants.{Plus, Minus, Times}
 use Rattle.insns.specs.declared.op.Shift.{Shift}
-use Rattle.insns.specs.declared.op.Shift.TheVariants as Shift
 use Rattle.fold.specs.declared.Tail.{Tail}
-use Rattle.fold.specs.declared.Tail.TheVariants as Tail
 use Rattle.fold.specs.declared.How.{How}
-use Rattle.fold.specs.declared.How.TheVariants as How
 use Rattle.fold.specs.Literal.{bit_run, const_of, imm_of, amount_of, amount_lit}
 use Rattle.fold.specs.Opcodes.{mirror, branch_of}
 

@@ -26,7 +26,7 @@ pub record OneRun (z : ℤ) (lo len : ℕ) : Type 0 where
   pub positive : 0 < 2 ^ lo * (2 ^ len - 1)
   pub short : lo + len ≤ 62
 
--- How a run is found (`bit_run`), as a definition that computes. That it gives `Ones lo len` exactly where z is that run, and `Other` exactly where z
+-- How a run is found (`bit_run`), as a definition that computes. That it gives `Some (lo, len)` exactly where z is that run, and `None` exactly where z
 -- is no run, is proved (proofs/literal/Runs: `run-exactly`, `run_none`), so it need not be checked against 01.
 
 -- how many bits equal to b stand first in a number, from the lowest; at most f are counted

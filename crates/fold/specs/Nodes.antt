@@ -5,8 +5,6 @@ use Rattle.table.specs.Table.{kind_at}
 use Rattle.table.specs.Nodes.{Node, Child}
 use Rattle.table.specs.Tree.{minus, not', arith, cmp, and, or, Tree, leaf, unary, binary, ternary, tree}
 use Rattle.fold.specs.declared.Tail.{Tail}
-use Rattle.fold.specs.declared.Tail.TheVariants as Tail
-use Rattle.fold.specs.declared.How.TheVariants as How
 use Rattle.fold.specs.Literal.{as_imm16}
 use Rattle.fold.specs.Fold.{fold_of, minus_one, takes_shift, Picked, one, two, compare_pick}
 

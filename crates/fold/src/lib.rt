@@ -18,7 +18,7 @@ use insns::op::{Arith, Cmp, Imm16, Shift};
 #[derive(Clone, Copy)]
 pub enum Tail {
     Not,
-    Option<Imm16>(Arith, Imm16),
+    Imm(Arith, Imm16),
     Shift(Shift, u8),
     Mask(u8, u8),
     ShiftMask(u8, u8, u8),
@@ -28,7 +28,7 @@ pub enum Tail {
 #[derive(Clone, Copy)]
 pub enum How {
     Bool(bool),
-    Option<Imm16>(Cmp, Imm16),
+    Imm(Cmp, Imm16),
 }
 
 // The amount by which node i shifts to the right, if that is a literal. A constant shift that feeds a mask folds into it, which is what pulling a field
@@ -119,7 +119,7 @@ pub fn fold_of(nodes: &[u64], i: usize) -> Option<Tail>
 // The operand that a fold at node i leaves to be generated: the only one, the left one, or, of a mask that takes in a shift, the shift's left one.
 pub fn operand_of(nodes: &[u64], i: usize, tail: Tail) -> usize
     requires operator { Operator nodes.now i }
-    requires i_value { op_fold (tree nodes.now i) ≡ Fold.Into tail }
+    requires i_value { op_fold (tree nodes.now i) ≡ Some tail }
     ensures { Operand nodes.now i tail result }
 {
     if table::kind_at(nodes, i) <= table::NOT {

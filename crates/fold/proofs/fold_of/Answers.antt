@@ -22,4 +22,4 @@ pub literal_fold-requires : goal.literal_fold-requires
 literal_fold-requires c = search (asks, operators, rules)
 
 pub returns : goal.returns
-returns c = search (operators, c.in-Is.known_told-1-own.given.0.1, rules)
+returns c = search (operators, c.in-Some.known_told-1-own.given.0.1, rules)

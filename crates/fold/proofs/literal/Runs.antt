@@ -69,12 +69,14 @@ run_is (pos m) lo len h = go (eqb m 0) refl h
     l : ℕ
     l = bits 1 64 (m / 2 ^ k)
 
-    ran : (m ≡ 0 → ⊥) → (b : Bool) → eqb (m / 2 ^ k / 2 ^ l) 0 && leb (k + l) 62 ≡ b → cond b (Some (k, l)) None ≡ Some (lo, len) → OneRun (pos m) lo len
+    ran : (m ≡ 0 → ⊥) → (b : Bool) → eqb (m / 2 ^ k / 2 ^ l) 0 && leb (k + l) 62 ≡ b → cond {A = Option (ℕ × ℕ)} b (Some (k, l)) None ≡ Some (lo, len)
+        → OneRun (pos m) lo len
     ran some false e h = absurd (let z : ◌≡◌ {A = ℕ} 0 1 = cc in omega arith)
     ran some true e h =
         let s = both (eqb (m / 2 ^ k / 2 ^ l) 0) (leb (k + l) 62) e in
-        let a : k ≡ lo = cc in
-        let b : l ≡ len = cc in
+        let p : ◌≡◌ {A = ℕ × ℕ} (k, l) (lo, len) = cc in
+        let a : k ≡ lo = ap (λ x. x.0) p in
+        let b : l ≡ len = ap (λ x. x.1) p in
         let is : m ≡ 2 ^ k * (2 ^ l - 1) = run_of m k l refl refl (eqb-true (m / 2 ^ k / 2 ^ l) 0 s.0) in
         rw (← a, ← b) (record { is = ap pos is; positive = omega arith; short = leb-true (k + l) 62 s.1 })
 
@@ -132,11 +134,11 @@ run-found z lo len r = ap bit_run r.is ∙ found_at lo len r.positive r.short
 
 -- ---- both directions
 
--- `bit_run z` is `Ones lo len` exactly where z is that run
+-- `bit_run z` is `Some (lo, len)` exactly where z is that run
 pub run-exactly : (z : ℤ) (lo len : ℕ) → (bit_run z ≡ Some (lo, len)) ↔ OneRun z lo len
 run-exactly z lo len = (run_is z lo len, run-found z lo len)
 
--- and `Other` exactly where z is no run
+-- and `None` exactly where z is no run
 pub run_none : (z : ℤ) → (bit_run z ≡ None) ↔ ((lo len : ℕ) → OneRun z lo len → ⊥)
 run_none z = (λ h lo len r. let e = run-found z lo len r in let z : ◌≡◌ {A = ℕ} 0 1 = cc in omega arith, λ h. go (bit_run z) refl h)
   where

@@ -9,7 +9,6 @@ use borrow.Author.Tests.{le-leb, lt-leb}
 use Rattle.table.specs.Tree.{Arith, bit_and, bit_or, bit_xor, lshift, rshift, add, sub, mul, div, mod', Cmp, eq, ne, lt, le, gt, ge, arith, cmp, binary_kind, kind_of, arith_code, cmp_code}
 use Rattle.table.proofs.Arities.{binary-code}
 use Rattle.insns.specs.declared.op.Three.{Three}
-use Rattle.insns.specs.declared.op.Three.TheVariants as Three
 use Rattle.insns.specs.declared.op.Cmp.{Cmp as JumpCmp}
 use Rattle.fold.specs.Opcodes.{three_of, mirror, branch_of}
 use Rattle.fold.specs.Nodes.{is_junction}

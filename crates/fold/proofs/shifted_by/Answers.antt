@@ -16,4 +16,4 @@ pub returns-in_default : goal.returns-in_default
 returns-in_default c = search (asks, shifts, rules)
 
 pub returns : goal.returns
-returns c = search (shifts, c.in-Is.known_told-1-own.given.0.1, rules)
+returns c = search (shifts, c.in-Some.known_told-1-own.given.0.1, rules)

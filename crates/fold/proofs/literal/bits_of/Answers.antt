@@ -1,7 +1,4 @@
 -- `literal::bits_of` meets its contract: what is counted and what is left give the whole.
-use mathlib.Core.Path.{◌≡◌}
-use Prim.Native.Nat.{◌≤◌, ◌+◌, ◌-◌}
-use Rattle.fold.specs.Literal.{bits}
 use borrow.Author.Rules.{rules}
 use Rattle.fold.proofs.literal.Literals.{bits-first, bits-end, bits-next, bits-all}
 use Rattle.fold.proofs.literal.bits_of.Goals as goal

@@ -2,8 +2,6 @@
 use mathlib.Core.Path.{◌≡◌}
 use Prim.Native.Nat.{◌≤◌, ◌+◌, ◌-◌}
 use Rattle.fold.specs.Literal.{bits}
-use borrow.Author.Rules.{rules}
-use Rattle.fold.proofs.literal.Literals.{bits-first, bits-end, bits-next, bits-all}
 use Rattle.fold.proofs.literal.bits_of.Given as goal
 
 abbrev pub invariant-loop-n : goal.invariant-loop-n

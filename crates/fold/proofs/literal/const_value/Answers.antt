@@ -7,7 +7,7 @@ pub returns-in_default : goal.returns-in_default
 returns-in_default c = search (literals, rules)
 
 pub returns-then-within : goal.returns-then-within
-returns-then-within c = search (literals, c.in-Is.known_told-1-own.given.0.1, rules)
+returns-then-within c = search (literals, c.in-Some.known_told-1-own.given.0.1, rules)
 
 pub returns : goal.returns
-returns c = search (literals, c.in-Is.known_told-1-own.given.0.1, rules)
+returns c = search (literals, c.in-Some.known_told-1-own.given.0.1, rules)

@@ -1,6 +1,5 @@
 -- `opcodes::mirrored_branch` meets its contract: one table after the other.
 use Rattle.fold.specs.Opcodes.{mirror}
-use borrow.Author.Rules.{rules}
 use Rattle.fold.proofs.opcodes.mirrored_branch.Goals as goal
 
 pub returns : goal.returns
