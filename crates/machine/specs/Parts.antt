@@ -1,5 +1,5 @@
 -- Plumbing: what the parts of `step` that write nothing answer.
-use Rattle.std.specs.Prelude.{Result, Ok, Err}
+use Rattle.std.specs.Prelude.{ℕ, Result, Ok, Err}
 use Rattle.faults.specs.declared.Fault.{Fault}
 use Rattle.machine.specs.Step.{Next, go, put, stop}
 
