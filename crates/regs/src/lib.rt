@@ -1,9 +1,8 @@
-// The register counter of a frame, a port of the Rust's `Regs`. It is lent and changed in place by three thin methods, `alloc_n`, `free_to` and
-// `alloc_from`. Before each of them stands a function that computes the new counter by value.
+// The register counter of a frame, a port of the Rust's `Regs`. It is lent, and changed in place.
 #![tactic(auto)]
 
-ghost use Rattle.std.specs.Prelude.{◌≡◌, ◌+◌, max};
-ghost use Rattle.regs.specs.Counter.{fresh, end_fault, allocated, freed, extended, number_of};
+ghost use Rattle.std.specs.Prelude.{◌≡◌, ◌+◌};
+ghost use Rattle.regs.specs.Counter.{fresh, end_at, end_fault, allocated, freed, extended, reached, refusal};
 
 use faults::Fault;
 
@@ -18,24 +17,15 @@ pub struct Regs {
     pub max: u16,
 }
 
-// What an allocation gave, and the counter after it.
-#[derive(Clone, Copy)]
-pub struct Alloc {
-    pub got: Result<u16, Fault>,
-    pub regs: Regs,
-}
-
-// The number of a refusal, 0 for none, and the counter after a run was taken.
-#[derive(Clone, Copy)]
-pub struct Extended {
-    pub fault: u8,
-    pub regs: Regs,
-}
-
-fn greater(a: u16, b: u16) -> u16
-    ensures { result ≡ max a b }
+// Where a run of n registers from start on ends, if no register past the last one is needed.
+fn end_of(start: u16, n: u16) -> Result<u16, Fault>
+    ensures { result ≡ end_at (start + n) }
 {
-    if a < b { b } else { a }
+    let end = start as u64 + n as u64;
+    if faults::MAX_REGISTERS < end {
+        return Err(Fault::NoRegister);
+    }
+    Ok(end as u16)
 }
 
 impl Regs {
@@ -43,93 +33,47 @@ impl Regs {
     pub fn new(vars: u16) -> Regs
         ensures { result ≡ fresh vars }
     {
-        let temp_base = greater(vars, 1);
+        let temp_base = vars.max(1);
         Regs {
-            temp_base: temp_base,
+            temp_base,
             next: temp_base,
             max: temp_base,
         }
     }
 
-    // The counter with n registers more.
-    fn with_n(self, n: u16) -> Alloc
-        ensures { result ≡ allocated self n }
+    // Takes every register below end.
+    fn reach(&mut self, end: u16)
+        ensures { self.new ≡ reached self.old end }
     {
-        let end = self.next as u64 + n as u64;
-        if faults::MAX_REGISTERS < end {
-            return Alloc {
-                got: Err(Fault::NoRegister),
-                regs: self,
-            };
-        }
-        let next = end as u16;
-        Alloc {
-            got: Ok(self.next),
-            regs: Regs {
-                temp_base: self.temp_base,
-                next: next,
-                max: greater(self.max, next),
-            },
-        }
+        self.next = end;
+        self.max = self.max.max(end);
     }
 
-    // Reserves a run of n registers: the first of them, or 5, and then the counter is as it was.
+    // Reserves a run of n registers: the first of them, or a refusal, and then the counter is as it was.
     pub fn alloc_n(&mut self, n: u16) -> Result<u16, Fault>
-        ensures { (number_of result ≡ end_fault (self.old.next + n))
+        ensures { (refusal result ≡ end_fault (self.old.next + n))
             × (result ≡ (allocated self.old n).got)
             × (self.new ≡ (allocated self.old n).regs) }
     {
-        let a = Regs::with_n(*self, n);
-        *self = a.regs;
-        a.got
-    }
-
-    // The counter with every register from top on given back.
-    fn back_to(self, top: u16) -> Regs
-        ensures { result ≡ freed self top }
-    {
-        Regs {
-            temp_base: self.temp_base,
-            next: top,
-            max: self.max,
-        }
+        let first = self.next;
+        let end = end_of(first, n)?;
+        self.reach(end);
+        Ok(first)
     }
 
     // Gives back every temporary from top on.
     pub fn free_to(&mut self, top: u16)
         ensures { self.new ≡ freed self.old top }
     {
-        *self = Regs::back_to(*self, top);
+        self.next = top;
     }
 
-    // The counter with the n registers from start on taken, where start is already handed out.
-    fn with_from(self, start: u16, n: u16) -> Extended
-        ensures { result ≡ extended self start n }
-    {
-        let end = start as u64 + n as u64;
-        if faults::MAX_REGISTERS < end {
-            return Extended {
-                fault: Fault::NoRegister,
-                regs: self,
-            };
-        }
-        let next = greater(self.next, end as u16);
-        Extended {
-            fault: faults::NONE,
-            regs: Regs {
-                temp_base: self.temp_base,
-                next: next,
-                max: greater(self.max, next),
-            },
-        }
-    }
-
-    // Reserves the n registers from start on: 0, or 5, and then the counter is as it was.
-    pub fn alloc_from(&mut self, start: u16, n: u16) -> u8
+    // Reserves the n registers from start on, where start is already handed out; refused, it leaves the counter as it was.
+    pub fn alloc_from(&mut self, start: u16, n: u16) -> Result<(), Fault>
         ensures { (result ≡ end_fault (start + n)) × (self.new ≡ (extended self.old start n).regs) }
     {
-        let e = Regs::with_from(*self, start, n);
-        *self = e.regs;
-        e.fault
+        let end = end_of(start, n)?;
+        self.reach(self.next.max(end));
+        Ok(())
     }
 }

@@ -1,10 +1,20 @@
--- `Regs::alloc_from` meets its contract: the counter is the one computed by value, and the number is where its run ends.
-use mathlib.Core.Path.{ap, ◌∙◌}
-use Rattle.regs.specs.declared.Extended.{Extended}
-use Rattle.regs.proofs.Laws.{from-number}
+-- `Regs::alloc_from` meets its contract: its run ends past the last register, or not.
+use mathlib.Core.Path.{refl}
+use Rattle.std.proofs.lemmas.Result.{err_from_is_err_and}
+use Rattle.faults.specs.Faults.{fault}
+use Rattle.regs.specs.Counter.{end_fault, extended}
+use Rattle.regs.proofs.Laws.{past, within}
 use Rattle.regs.proofs.Regs.alloc_from.Goals as goal
 
+pub returns-in_err-end : goal.returns-in_err-end
+unfolding end_fault fault extended
+returns-in_err-end c =
+    let p = past _ c.end_of.ensures c.in_err-end.was in
+    let q = err_from_is_err_and c.from_residual.result c.from_residual.ensures.1 in
+    rw (q.1, q.2, p.1, p.0) (refl, refl)
+
 pub returns : goal.returns
+unfolding end_fault fault extended
 returns c =
-    let e = c.with_from-e.ensures in
-    (ap (λ (x : Extended). x.fault) e ∙ from-number c.args.self.now c.args.start c.args.n, ap (λ (x : Extended). x.regs) e)
+    let p = within _ c.end_of.ensures c.in_ok-end.was in
+    rw p.0 (cc, cc)

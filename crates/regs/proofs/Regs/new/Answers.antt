@@ -1,7 +1,9 @@
--- `regs::Regs::new` meets its contract: the greater of two is where temporaries start.
-use borrow.Author.Rules.{rules}
-use Rattle.regs.proofs.Laws.{laws}
+-- `Regs::new` meets its contract: the greater of two is where temporaries start.
+use mathlib.Core.Path.{refl}
+use Rattle.table.specs.Table.{temp_base_of}
+use Rattle.regs.specs.Counter.{fresh}
 use Rattle.regs.proofs.Regs.new.Goals as goal
 
 pub returns : goal.returns
-returns c = search laws
+unfolding fresh temp_base_of
+returns c = rw c.max-temp_base.ensures refl
