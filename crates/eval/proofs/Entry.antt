@@ -1,15 +1,16 @@
 -- What `evaluate` has to show at each of its returns and calls.
-use Rattle.std.specs.Prelude.{None}
-use mathlib.Core.Path.{◌≡◌, refl, sym, ◌∙◌, ap}
-use mathlib.Core.Bool.{Bool, true, false, not}
+use Rattle.std.specs.Prelude.{None, Err}
+use Rattle.faults.specs.declared.Fault.{Fault}
+use mathlib.Core.Path.{◌≡◌, sym, ◌∙◌}
+use mathlib.Core.Bool.{Bool, true, false}
 use mathlib.Core.List.{List}
-use Prim.Native.Nat.{ℕ, zero, suc, ◌+◌, ◌-◌, ◌/◌, ◌≤◌, ◌<◌, min}
+use Prim.Native.Nat.{ℕ, ◌+◌, ◌-◌, ◌/◌, ◌≤◌, ◌<◌, min}
 use native.Mathlib.Omega.{arith}
 use lib.ListN.{length, take, length-take}
 use mir.Syntax.{w64}
 use mir.Val.{Fits}
 use borrow.Author.Tests.{lt-ltb, le-ltb}
-use Rattle.faults.specs.Faults.{fault, ◌or_else◌}
+use Rattle.faults.specs.Faults.{Checked, none, fault, ◌or_else◌}
 use Rattle.faults.specs.Numbers.{out_of_range, ill_formed}
 use Rattle.faults.proofs.Faults.{second, stop}
 use Rattle.table.specs.Table.{node_count, check_of}
@@ -23,11 +24,6 @@ use Rattle.eval.specs.Eval.{eval_of}
 use Rattle.eval.specs.Evaluate.{locals_fault, unless, evaluate_of}
 use Rattle.eval.specs.Steps.{Lends}
 
-refused : (n : ℕ) (r : Answer) → (n ≡ 0 → ⊥) → faulted n ≡ unless n r
-unfolding unless
-refused zero r h = absurd (h refl)
-refused (suc n) r h = refl
-
 -- the first n of each of two lists, neither of which is shorter
 module _ (n : ℕ) (ks ps : List ℕ) {m : ℕ} (f : m ≡ min (length ks) (length ps)) (h : n ≤ m) where
   pub in_kinds : n ≡ length (take n ks)
@@ -36,12 +32,12 @@ module _ (n : ℕ) (ks ps : List ℕ) {m : ℕ} (f : m ≡ min (length ks) (leng
   pub in_payloads : n ≡ length (take n ps)
   in_payloads = rw length-take (omega arith)
 
-module _ (ws ks ps : List ℕ) (params locals : ℕ) {n : Fault} (e : n ≡ check_of ws params locals None) where
-  pub table-refused : (n ≡ 0 → ⊥) → faulted n ≡ evaluate_of ws params locals ks ps
-  unfolding evaluate_of
-  table-refused h = rw (← stop _ e h) (refused n _ h)
+module _ (ws : List ℕ) (params locals : ℕ) {n : Checked} (e : n ≡ check_of ws params locals None) where
+  pub table-refused : (ks ps : List ℕ) {f : Fault} → n ≡ Err f → faulted f ≡ evaluate_of ws params locals ks ps
+  unfolding evaluate_of unless
+  table-refused ks ps h = rw (← stop _ e h, h)
 
-  module _ (z : n ≡ 0) where
+  module _ (z : n ≡ none) where
     whole : Accepted ws params locals
     whole = accepted ws params locals None (sym e ∙ z)
 
@@ -51,7 +47,7 @@ module _ (ws ks ps : List ℕ) (params locals : ℕ) {n : Fault} (e : n ≡ chec
     pub last-node : 1 ≤ length ws / 4
     last-node = let a = whole in omega arith
 
-    module _ {m : ℕ} (f : m ≡ min (length ks) (length ps)) where
+    module _ (ks ps : List ℕ) {m : ℕ} (f : m ≡ min (length ks) (length ps)) where
       pub too_few : m < params + locals → faulted out_of_range ≡ evaluate_of ws params locals ks ps
       unfolding evaluate_of locals_fault unless fault ◌or_else◌
       too_few h = let g : min (length ks) (length ps) < params + locals = omega arith in rw (second _ _ (sym e ∙ z), lt-ltb _ _ g)

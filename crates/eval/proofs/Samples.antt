@@ -1,4 +1,5 @@
 -- Samples of meaning, computed from the definitions alone.
+use Rattle.std.specs.Prelude.{Ok, Err}
 use mathlib.Core.Path.{◌≡◌, refl}
 use mathlib.Core.Bool.{true, false}
 use mathlib.Core.List.{[], ◌∷◌}
@@ -49,6 +50,6 @@ picks = (refl, refl, refl)
 
 -- ---- locals lent: too few before ill-formed, the shorter list counts, and what is beyond the base is not looked at
 
-refusals : (locals_fault 1 [] (9 ∷ []) ≡ out_of_range) × (locals_fault 1 (9 ∷ []) (0 ∷ []) ≡ ill_formed) × (locals_fault 1 (0 ∷ 9 ∷ []) (0 ∷ []) ≡ Ok tt) × (locals_fault 0 [] [] ≡ Ok tt) × (locals_fault 2 (9 ∷ []) (0 ∷ []) ≡ out_of_range)
+refusals : (locals_fault 1 [] (9 ∷ []) ≡ Err out_of_range) × (locals_fault 1 (9 ∷ []) (0 ∷ []) ≡ Err ill_formed) × (locals_fault 1 (0 ∷ 9 ∷ []) (0 ∷ []) ≡ Ok tt) × (locals_fault 0 [] [] ≡ Ok tt) × (locals_fault 2 (9 ∷ []) (0 ∷ []) ≡ Err out_of_range)
 unfolding locals_fault Faults.fault ◌or_else◌ all_well of_pair
 refusals = (refl, refl, refl, refl, refl)

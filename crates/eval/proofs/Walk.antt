@@ -7,21 +7,22 @@ use mathlib.Core.List.{List}
 use Prim.Native.Nat.{ℕ, ◌≤◌, ◌<◌}
 use native.Mathlib.Omega.{arith}
 use lib.Dec.{eqb}
-use lib.ListN.{length, get_or}
-use Rattle.table.specs.Table.{kind_at, payload_at, depth_at, child1, child2, child3}
+use lib.ListN.{get_or}
+use Rattle.faults.specs.Numbers.{ill_formed}
+use Rattle.table.specs.Table.{kind_at, payload_at, depth_at, child1, child2}
 use Rattle.table.specs.Nodes.{Node, Child, ChildIs}
 use Rattle.table.specs.Tree as T
 use Rattle.table.specs.Tree.{Leaf, Unary, Arith, Cmp, Binary, Tree, Kind, leaf_kind, unary_kind, binary_kind, ternary_kind, no_kind, kind_of, tree, unary_code, arith_code, cmp_code, binary_code}
 use Rattle.table.proofs.Arities.{at-kind, leaf-le, unary-code, binary-code, ternary-code, unary-codes, arith-codes, cmp-codes}
 use Rattle.table.proofs.Nodes.{ok}
-use Rattle.table.proofs.Trees.{UnaryAt, BinaryAt, TernaryAt, View, is_leaf, is-unary, is-binary, is-ternary, view, leaf-in}
-use Rattle.value.specs.Value.{Datum, bool, datums}
+use Rattle.table.proofs.Trees.{BinaryAt, View, is_leaf, is-unary, is-binary, is-ternary, view, leaf-in}
+use Rattle.value.specs.Value.{Datum, bool}
 use Rattle.ops.specs.Ops as Ops
 use Rattle.ops.specs.Not as Not
 use Rattle.value.specs.Answer.{Answer, is, fault}
 use Rattle.eval.specs.Eval.{leaf_of, unary_of, arith_of, cmp_of, binary_of, eval_of}
 use Rattle.eval.specs.Apply.{on, both, whether, test}
-use Rattle.eval.specs.Next.{Ruled, truth_of, rule_of, first_of, after_of, chosen_of, next_of}
+use Rattle.eval.specs.Next.{Ruled, truth_of, rule_of, first_of, next_of}
 use Rattle.eval.specs.Steps.{leaves, alone_of, joined_of}
 use Rattle.eval.specs.declared.next.Rule.{Rule}
 use Rattle.eval.specs.declared.next.Rule.TheVariants as R
@@ -31,13 +32,13 @@ use Rattle.eval.proofs.apply.Laws.{chooses, whether-by}
 -- ---- leaves: the entry of its kind is the leaf's answer
 
 leaf-rule : List Datum → ℕ → ℕ → Kind → Type 0
-leaf-rule ls p k (leaf_kind f) = leaf_of ls (f p) ≡ get_or (leaves ls p) k (fault 0)
+leaf-rule ls p k (leaf_kind f) = leaf_of ls (f p) ≡ get_or (leaves ls p) k (fault ill_formed)
 leaf-rule ls p k (unary_kind o) = Unit {0}
 leaf-rule ls p k (binary_kind o) = Unit {0}
 leaf-rule ls p k ternary_kind = Unit {0}
 leaf-rule ls p k no_kind = Unit {0}
 
-pub leaf-code : (ls : List Datum) (p k : ℕ) (f : ℕ → Leaf) → kind_of k ≡ leaf_kind f → leaf_of ls (f p) ≡ get_or (leaves ls p) k (fault 0)
+pub leaf-code : (ls : List Datum) (p k : ℕ) (f : ℕ → Leaf) → kind_of k ≡ leaf_kind f → leaf_of ls (f p) ≡ get_or (leaves ls p) k (fault ill_formed)
 unfolding leaf-rule leaf_of
 leaf-code ls p k f e = subst (leaf-rule ls p k) e (at-kind (leaf-rule ls p) (λ j l. tt) (refl, (refl, (refl, (refl, (refl, (refl, omega arith)))))) k)
 
@@ -203,7 +204,7 @@ pub ref-below : {ws : List ℕ} {base i k p : ℕ} → Node ws base i → k ≡ 
 ref-below {ws} {base} {i} n e q h = rw q ((ok ws base i n).refers (sym e ∙ h))
 
 module _ (ls : List Datum) {ws : List ℕ} {base i k : ℕ} (n : Node ws base i) (e : k ≡ kind_at ws i) where
-  pub leaf-law : {p : ℕ} {r : Answer} → k ≤ 5 → p ≡ payload_at ws i → r ≡ get_or (leaves ls p) k (fault 0) → r ≡ eval_of ls (tree ws i)
+  pub leaf-law : {p : ℕ} {r : Answer} → k ≤ 5 → p ≡ payload_at ws i → r ≡ get_or (leaves ls p) k (fault ill_formed) → r ≡ eval_of ls (tree ws i)
   unfolding eval_of
   leaf-law {p} h q u =
       let v = leaf-in n (omega arith) in

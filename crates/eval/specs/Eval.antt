@@ -1,5 +1,5 @@
--- The meaning of a tree on the values of its locals, as document 01 has it: a value, or the number of the first fault.
-use Rattle.std.specs.Prelude.{ℕ, true, false, List, get_or}
+-- The meaning of a tree on the values of its locals, as document 01 has it: a value, or the first fault.
+use Rattle.std.specs.Prelude.{true, false, List, get_or}
 use Rattle.table.specs.Tree as T
 use Rattle.table.specs.Tree.{Leaf, Unary, Arith, Cmp, Binary, Tree}
 use Rattle.value.specs.Value.{Datum, nil, bool, int, float}

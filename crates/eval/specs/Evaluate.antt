@@ -1,6 +1,6 @@
--- The evaluation of a node table on lent locals: the number of the first refusal, or the meaning of the tree at the last node.
-use Rattle.std.specs.Prelude.{ℕ, zero, suc, ◌+◌, ◌-◌, min, not, List, ltb, length, take, None}
-use Rattle.faults.specs.Faults.{fault, ◌or_else◌}
+-- The evaluation of a node table on lent locals: the first fault that refuses it, or the meaning of the tree at the last node.
+use Rattle.std.specs.Prelude.{ℕ, ◌+◌, ◌-◌, min, not, List, ltb, length, take, None, Ok, Err}
+use Rattle.faults.specs.Faults.{Checked, fault, ◌or_else◌}
 use Rattle.faults.specs.Numbers.{out_of_range, ill_formed}
 use Rattle.table.specs.Table.{node_count, check_of}
 use Rattle.table.specs.Tree.{tree}
@@ -11,15 +11,15 @@ use Rattle.eval.specs.Eval.{eval_of}
 -- the locals are lent as pairs in two lists, of which the shorter counts; only the first `base` are looked at
 
 -- fewer than the base are 26, then an ill-formed one is 29
-unfoldable pub locals_fault : ℕ → List ℕ → List ℕ → ℕ
+unfoldable pub locals_fault : ℕ → List ℕ → List ℕ → Checked
 locals_fault base ks ps =
     fault (ltb (min (length ks) (length ps)) base) out_of_range
     or_else fault (not (all_well (take base ks) (take base ps))) ill_formed
 
--- a number other than 0 refuses
-unfoldable pub unless : ℕ → Answer → Answer
-unless zero r = r
-unless (suc n) r = faulted (suc n)
+-- a fault refuses
+unfoldable pub unless : Checked → Answer → Answer
+unless (Ok done) r = r
+unless (Err f) r = faulted f
 
 unfoldable pub evaluate_of : List ℕ → ℕ → ℕ → List ℕ → List ℕ → Answer
 evaluate_of ws params locals ks ps =

@@ -1,6 +1,6 @@
 -- Plumbing: how the code goes about a node with children: it evaluates one child, and then stops or goes on with one more. What a tree means stands in Eval.
 use Rattle.faults.specs.declared.Fault.{Fault}
-use Rattle.std.specs.Prelude.{ℕ, ◌<◌, ◌≡◌, cond, List, leb, eqb, Option, Some, None, Result, Ok, Err}
+use Rattle.std.specs.Prelude.{ℕ, ◌<◌, ◌≡◌, Bool, true, false, cond, List, leb, eqb, Option, Some, None, Result, Ok, Err}
 use Rattle.faults.specs.Numbers.{wrong_kind}
 use Rattle.table.specs.Table.{kind_at, child1, child2, child3}
 use Rattle.table.specs.Nodes.{Node}
@@ -12,7 +12,7 @@ use Rattle.eval.specs.declared.next.Rule.TheVariants as R
 -- an answer as a test
 abbrev pub truth_of : Answer → Result Bool Fault
 truth_of (is nil) = Err wrong_kind
-truth_of (is (bool t)) = cond t (Ok true) (Ok false)
+truth_of (is (bool t)) = Ok t
 truth_of (is (int z)) = Err wrong_kind
 truth_of (is (float p)) = Err wrong_kind
 truth_of (fault n) = Err n

@@ -1,5 +1,6 @@
 // The answer of a leaf, and that of a node from its children's answers, with the operators of `ops`.
 ghost use Rattle.std.specs.Prelude.{◌≡◌, ◌≤◌, ◌<◌, length, get_or};
+ghost use Rattle.faults.specs.Numbers.{ill_formed};
 ghost use Rattle.value.specs.Value as Vs;
 ghost use Rattle.value.specs.Value.{datums};
 ghost use Rattle.ops.specs.Ops as Ops;
@@ -9,19 +10,15 @@ ghost use Rattle.eval.specs.declared.next.Rule.TheVariants.{Unary};
 ghost use Rattle.eval.specs.Apply.{both, test};
 ghost use Rattle.eval.specs.Steps.{Lends, pair_of, leaves, alone_of, joined_of};
 
-use faults::Fault;
 use crate::next::{Rule, test_of};
+use faults::Fault;
 use value::Value;
 
-// A lent pair. `evaluate` has refused every ill-formed one with 29 before; it is 29 here too, so that this needs no such promise.
+// A lent pair. `evaluate` has refused every ill-formed one before; it is refused here too, so that this needs no such promise.
 fn pair(kind: u8, payload: u64) -> Result<Value, Fault>
     ensures { result_of result ≡ pair_of (Vs.of_pair kind payload) }
 {
-    let l = value::from_pair(kind, payload);
-    match l {
-        Some(v) => Ok(v),
-        None => Err(Fault::IllFormed),
-    }
+    value::from_pair(kind, payload).ok_or(Fault::IllFormed)
 }
 
 // The value of local p.
@@ -38,7 +35,7 @@ pub fn leaf(k: u64, p: u64, kinds: &[u8], payloads: &[u64]) -> Result<Value, Fau
     requires k_bound { k ≤ 5 }
     requires p_in_bounds { k ≡ 5 → p < length kinds.now }
     requires lends { Lends kinds.now payloads.now }
-    ensures { result_of result ≡ get_or (leaves (datums kinds.now payloads.now) p) k (OpsAnswer.fault 0) }
+    ensures { result_of result ≡ get_or (leaves (datums kinds.now payloads.now) p) k (OpsAnswer.fault ill_formed) }
 {
     match k {
         table::NIL => Ok(Value::Nil),
@@ -54,9 +51,7 @@ pub fn leaf(k: u64, p: u64, kinds: &[u8], payloads: &[u64]) -> Result<Value, Fau
 fn unary(k: u64, a: Result<Value, Fault>) -> Result<Value, Fault>
     ensures { result_of result ≡ alone_of Unary k (result_of a) }
 {
-    let Ok(x) = a else {
-        return a;
-    };
+    let x = a?;
     if k == table::MINUS {
         return ops::binary(table::MUL, x, Value::Int(-1));
     }
@@ -67,25 +62,14 @@ fn unary(k: u64, a: Result<Value, Fault>) -> Result<Value, Fault>
 fn binary(k: u64, a: Result<Value, Fault>, b: Result<Value, Fault>) -> Result<Value, Fault>
     ensures { result_of result ≡ both (Ops.binary_of k) (result_of a) (result_of b) }
 {
-    let Ok(x) = a else {
-        return a;
-    };
-    let Ok(y) = b else {
-        return b;
-    };
-    ops::binary(k, x, y)
+    ops::binary(k, a?, b?)
 }
 
 // An answer that has to be a Bool.
 fn tested(a: Result<Value, Fault>) -> Result<Value, Fault>
     ensures { result_of result ≡ test (result_of a) }
 {
-    let t = test_of(a);
-    match t {
-        Ok(true) => Ok(Value::Bool(true)),
-        Ok(false) => Ok(Value::Bool(false)),
-        Err(n) => Err(n),
-    }
+    Ok(Value::Bool(test_of(a)?))
 }
 
 // The answer of a node that stopped after its first child.
@@ -102,7 +86,12 @@ pub fn alone(r: Rule, k: u64, a: Result<Value, Fault>) -> Result<Value, Fault>
 }
 
 // The answer of a node that went on.
-pub fn joined(r: Rule, k: u64, a: Result<Value, Fault>, b: Result<Value, Fault>) -> Result<Value, Fault>
+pub fn joined(
+    r: Rule,
+    k: u64,
+    a: Result<Value, Fault>,
+    b: Result<Value, Fault>,
+) -> Result<Value, Fault>
     ensures { result_of result ≡ joined_of r k (result_of a) (result_of b) }
 {
     match r {

@@ -13,11 +13,11 @@ ghost use Rattle.eval.specs.Steps.{Lends};
 ghost use Rattle.eval.specs.Eval.{eval_of};
 ghost use Rattle.eval.specs.Evaluate.{evaluate_of};
 
-use faults::Fault;
-use value::Value;
 use crate::apply::{alone, joined, leaf};
 use crate::next::{first, next_of, rule_of};
+use faults::Fault;
 use table::{kind_at, payload_at};
+use value::Value;
 use value::pairs::{all_well, shorter};
 
 // The answer of the tree at node i on the locals lent. Two calls of itself are all that it has, so that a level takes little of the stack.
@@ -40,15 +40,18 @@ fn eval_node(nodes: &[u64], kinds: &[u8], payloads: &[u64], i: usize) -> Result<
     joined(r, k, a, b)
 }
 
-// The answer of a node table on the values of its parameters and locals, which are lent as pairs: a value, or the number of the
-// first refusal or fault. It writes nothing.
-pub fn evaluate(nodes: &[u64], params: u64, locals: u64, kinds: &[u8], payloads: &[u64]) -> Result<Value, Fault>
+// The answer of a node table on the values of its parameters and locals, which are lent as pairs: a value, or the first fault.
+// It writes nothing.
+pub fn evaluate(
+    nodes: &[u64],
+    params: u64,
+    locals: u64,
+    kinds: &[u8],
+    payloads: &[u64],
+) -> Result<Value, Fault>
     ensures { result_of result ≡ evaluate_of nodes.now params locals kinds.now payloads.now }
 {
-    let n = table::check::check(nodes, params, locals, None);
-    if n != faults::NONE {
-        return Err(n);
-    }
+    table::check::check(nodes, params, locals, None)?;
     let base = (params + locals) as usize;
     if shorter(kinds.len(), payloads.len()) < base {
         return Err(Fault::OutOfRange);

@@ -25,7 +25,7 @@ fn truth_of(v: Value) -> Result<bool, Fault>
 {
     match v {
         Value::Nil => Err(Fault::WrongKind),
-        Value::Bool(t) => { if t { Ok(true) } else { Ok(false) } }
+        Value::Bool(t) => Ok(t),
         Value::Int(_) => Err(Fault::WrongKind),
         Value::Float(_) => Err(Fault::WrongKind),
         Value::Nan(_) => Err(Fault::WrongKind),
@@ -36,10 +36,7 @@ fn truth_of(v: Value) -> Result<bool, Fault>
 pub fn test_of(a: Result<Value, Fault>) -> Result<bool, Fault>
     ensures { result ≡ truth_of (result_of a) }
 {
-    match a {
-        Ok(v) => truth_of(v),
-        Err(n) => Err(n),
-    }
+    truth_of(a?)
 }
 
 // The rule of a kind from MINUS up.
@@ -106,10 +103,6 @@ pub fn next_of(nodes: &[u64], i: usize, r: Rule, a: Result<Value, Fault>) -> Opt
         Rule::Operator => after(a, Some(child_1(nodes, i))),
         Rule::And => chosen(test_of(a), Some(child_1(nodes, i)), None),
         Rule::Or => chosen(test_of(a), None, Some(child_1(nodes, i))),
-        Rule::Ternary => chosen(
-            test_of(a),
-            Some(child_2(nodes, i)),
-            Some(child_1(nodes, i)),
-        ),
+        Rule::Ternary => chosen(test_of(a), Some(child_2(nodes, i)), Some(child_1(nodes, i))),
     }
 }

@@ -27,7 +27,7 @@ fn write_answer<W: Write>(output: &mut W, a: Result<Value, Fault>) -> io::Result
             replay_io::write_word(output, value::payload_of(v))
         }
         Err(n) => {
-            replay_io::write_word(output, n as u64)?;
+            replay_io::write_word(output, n.number() as u64)?;
             replay_io::write_word(output, 0)?;
             replay_io::write_word(output, 0)
         }
@@ -52,7 +52,7 @@ fn serve<W: Write>(
     let p = within(np, payloads.len());
     replay_io::write_word(
         output,
-        table::check::check(&words[..w], params, locals, dest_of(dest)) as u64,
+        faults::number_of(table::check::check(&words[..w], params, locals, dest_of(dest))) as u64,
     )?;
     write_answer(
         output,

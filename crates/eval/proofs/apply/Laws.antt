@@ -1,8 +1,8 @@
 -- Tests, operators and leaves, over plain values.
-use Rattle.std.specs.Prelude.{Option, Some, None, Result, Ok, Err}
+use Rattle.std.specs.Prelude.{Option, Some, None, Result, Ok, Err, IsErrAnd}
 use Rattle.faults.specs.declared.Fault.{Fault}
 use mathlib.Core.Path.{◌≡◌, refl, sym, ◌∙◌, ap}
-use mathlib.Core.Bool.{true, false, cond}
+use mathlib.Core.Bool.{Bool, true, false, cond}
 use mathlib.Core.List.{List}
 use Prim.Native.Nat.{ℕ, ◌≤◌, ◌<◌}
 use native.Mathlib.Omega.{arith}
@@ -20,6 +20,12 @@ use Rattle.eval.specs.Next.{truth_of}
 use Rattle.eval.specs.declared.next.Rule.{Rule}
 use Rattle.eval.specs.Apply.{on, both, whether, test}
 use Rattle.eval.specs.Steps.{Lends, pair_of, alone_of, joined_of}
+
+-- ---- a fault is what a `?` returns
+
+pub faulted : (r : Result Value Fault) {f : Fault} {t : Answer} → fault f ≡ t → IsErrAnd r (λ e. e ≡ f) → result_of r ≡ t
+faulted (Ok v) e h = absurd h
+faulted (Err f) e h = ap fault h ∙ e
 
 -- ---- tests
 
@@ -39,29 +45,24 @@ whether-by (is (float p)) b c = refl
 whether-by (fault n) b c = refl
 
 module _ (a : Answer) {t : Result Bool Fault} (e : t ≡ truth_of a) where
-  pub test-yes : t ≡ (Ok true) → is (bool true) ≡ test a
+  pub test-bool : (b : Bool) → t ≡ Ok b → is (bool b) ≡ test a
   unfolding test
-  test-yes h = rw (whether-by a _ _, ← e, h)
-
-  pub test-no : t ≡ (Ok false) → is (bool false) ≡ test a
-  unfolding test
-  test-no h = rw (whether-by a _ _, ← e, h)
+  test-bool true h = rw (whether-by a _ _, ← e, h)
+  test-bool false h = rw (whether-by a _ _, ← e, h)
 
   pub test-wrong : {n : Fault} → t ≡ Err n → fault n ≡ test a
   unfolding test
   test-wrong h = rw (whether-by a _ _, ← e, h)
 
-pub ruleset truths = (test-yes, test-no, test-wrong)
-
 -- ---- operators
 
 module _ (k : ℕ) {x : Result Value Fault} where
-  pub both_left : (y : Answer) {n : Fault} → x ≡ Err n → result_of x ≡ both (Ops.binary_of k) (result_of x) y
+  pub both_left : (y : Answer) {n : Fault} → x ≡ Err n → fault n ≡ both (Ops.binary_of k) (result_of x) y
   unfolding both
   both_left y e = rw e
 
   module _ {y : Result Value Fault} {a : Value} (e : x ≡ Ok a) where
-    pub both_right : {n : Fault} → y ≡ Err n → result_of y ≡ both (Ops.binary_of k) (result_of x) (result_of y)
+    pub both_right : {n : Fault} → y ≡ Err n → fault n ≡ both (Ops.binary_of k) (result_of x) (result_of y)
     unfolding both on
     both_right f = rw (e, f)
 
@@ -69,7 +70,7 @@ module _ (k : ℕ) {x : Result Value Fault} where
     unfolding both on
     both-are f q = rw (e, f) q
 
-  pub unary-fault : {n : Fault} → x ≡ Err n → result_of x ≡ on (cond (eqb k 6) Ops.minus_of Not.not_of) (result_of x)
+  pub unary-fault : {n : Fault} → x ≡ Err n → fault n ≡ on (cond (eqb k 6) Ops.minus_of Not.not_of) (result_of x)
   unfolding on
   unary-fault e = rw e
 
@@ -81,8 +82,6 @@ module _ (k : ℕ) {x : Result Value Fault} where
     pub unary-not : (k ≡ 6 → ⊥) → r ≡ Not.not_of (meaning a) → r ≡ on (cond (eqb k 6) Ops.minus_of Not.not_of) (result_of x)
     unfolding on
     unary-not h q = rw (e, ne_eqb k 6 h) q
-
-pub ruleset operates = (both_left, both_right, both-are, unary-fault, unary-minus, unary-not)
 
 -- ---- the rule of a node
 

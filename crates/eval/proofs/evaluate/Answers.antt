@@ -1,31 +1,31 @@
--- `eval::evaluate` meets its contract: a chain of tests, and the check's 0 is what `eval_node` asks of its table.
-use borrow.Author.Rules.{rules}
-use Rattle.eval.proofs.Entry.{entry, in_kinds, in_payloads, root, lends}
+-- `eval::evaluate` meets its contract: a chain of tests, and what `eval_node` asks of its table is that the check found no fault.
+use Rattle.eval.proofs.apply.Laws.{faulted}
+use Rattle.eval.proofs.Entry.{table-refused, base-fits, last-node, too_few, ill-formed, root, lends, evaluated}
 use Rattle.eval.proofs.evaluate.Goals as goal
 
-pub returns-then-n-ne-NONE : goal.returns-then-n-ne-NONE
-returns-then-n-ne-NONE c = search entry
+pub returns-in_err-check : goal.returns-in_err-check
+returns-in_err-check c = faulted c.from_residual.result (table-refused _ _ _ c.check.ensures _ _ c.in_err-check.was) c.from_residual.ensures.1
 
 pub overflow_add-base : goal.overflow_add-base
-overflow_add-base c = search entry
+overflow_add-base c = base-fits _ _ _ c.check.ensures c.in_ok-check.was
 
 pub returns-then-shorter-base : goal.returns-then-shorter-base
-returns-then-shorter-base c = search entry
-
-pub slice_bounds-ks-end : goal.slice_bounds-ks-end
-slice_bounds-ks-end c = search (in_kinds, rules)
-
-pub slice_bounds-ps-end : goal.slice_bounds-ps-end
-slice_bounds-ps-end c = search (in_payloads, rules)
+returns-then-shorter-base c = too_few _ _ _ c.check.ensures c.in_ok-check.was _ _ c.shorter.ensures c.if-shorter-base.true
 
 pub overflow_sub-nodes : goal.overflow_sub-nodes
-overflow_sub-nodes c = search entry
+overflow_sub-nodes c = last-node _ _ _ c.check.ensures c.in_ok-check.was
 
 pub eval_node-requires : goal.eval_node-requires
-eval_node-requires c = record { node = search root depth 9; lends = search lends depth 9 }
+eval_node-requires c =
+    record {
+      node = root _ _ _ c.check.ensures c.in_ok-check.was _ _ c.shorter.ensures c.if-shorter-base.false c.all_well.ensures c.if-all_well.true;
+      lends = lends _ _ _ c.check.ensures c.in_ok-check.was _ _ c.shorter.ensures c.if-shorter-base.false c.all_well.ensures c.if-all_well.true;
+    }
 
 pub returns-then-all_well : goal.returns-then-all_well
-returns-then-all_well c = search entry
+returns-then-all_well c =
+    evaluated _ _ _ c.check.ensures c.in_ok-check.was _ _ c.shorter.ensures c.if-shorter-base.false c.all_well.ensures c.if-all_well.true c.eval_node.ensures
 
 pub returns : goal.returns
-returns c = search entry
+returns c =
+    ill-formed _ _ _ c.check.ensures c.in_ok-check.was _ _ c.shorter.ensures c.if-shorter-base.false c.all_well.ensures c.if-all_well.false

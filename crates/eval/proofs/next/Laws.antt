@@ -12,8 +12,8 @@ use lib.IntN.{ℤ}
 use lib.Ieee.{Float}
 use borrow.Author.Tests.{le-leb, lt-leb, leb-false, ne_eqb, eqb-false}
 use Rattle.faults.specs.Numbers.{wrong_kind}
-use Rattle.table.specs.Table.{kind_at, child1, child2, child3}
-use Rattle.table.specs.Nodes.{Node, Inner, ChildIs}
+use Rattle.table.specs.Table.{kind_at, child1, child2}
+use Rattle.table.specs.Nodes.{Inner, ChildIs}
 use Rattle.value.specs.Value.{meaning}
 use Rattle.value.specs.declared.Value.{Value}
 use Rattle.value.specs.declared.Value.TheVariants as C

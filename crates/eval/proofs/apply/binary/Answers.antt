@@ -1,30 +1,13 @@
 -- `binary` meets its contract: the first fault returns, and then the operator.
-use borrow.Author.Rules.{rules}
-use Rattle.eval.proofs.apply.Laws.{operates}
+use Rattle.value.specs.Answer.{result_of}
+use Rattle.eval.proofs.apply.Laws.{both_left, both_right, both-are, faulted}
 use Rattle.eval.proofs.apply.binary.Goals as goal
 
-ruleset laws = (operates, rules)
+pub returns-in_err-a : goal.returns-in_err-a
+returns-in_err-a c = faulted c.from_residual.result (both_left c.args.k (result_of c.args.b) c.in_err-a.was) c.from_residual.ensures.1
 
-pub enum_known-a : goal.enum_known-a
-enum_known-a c = search laws
-
-pub enum_told-1 : goal.enum_told-1
-enum_told-1 c = search laws
-
-pub returns-in_default : goal.returns-in_default
-returns-in_default c = search laws
-
-pub enum_known-b : goal.enum_known-b
-enum_known-b c = search laws
-
-pub enum_told-in_default-b : goal.enum_told-in_default-b
-enum_told-in_default-b c = search laws
-
-pub returns-in_default-b : goal.returns-in_default-b
-returns-in_default-b c = search laws
-
-pub binary-requires : goal.binary-requires
-binary-requires c = search laws
+pub returns-in_err-b : goal.returns-in_err-b
+returns-in_err-b c = faulted c.from_residual-in_err-b.result (both_right c.args.k c.in_ok-a.was c.in_err-b.was) c.from_residual-in_err-b.ensures.1
 
 pub returns : goal.returns
-returns c = search laws
+returns c = both-are c.args.k c.in_ok-a.was c.in_ok-b.was c.binary.ensures

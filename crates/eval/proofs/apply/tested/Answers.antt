@@ -1,27 +1,9 @@
--- `tested` meets its contract: a choice between True and False is made by the truth.
-use borrow.Author.Rules.{rules}
-use Rattle.eval.proofs.apply.Laws.{truths}
+-- `tested` meets its contract: by the truth.
+use Rattle.eval.proofs.apply.Laws.{test-bool, test-wrong, faulted}
 use Rattle.eval.proofs.apply.tested.Goals as goal
 
-ruleset laws = (truths, rules)
+pub returns-in_err-test_of : goal.returns-in_err-test_of
+returns-in_err-test_of c = faulted c.from_residual.result (test-wrong _ c.test_of.ensures c.in_err-test_of.was) c.from_residual.ensures.1
 
-pub test_of-t-requires : goal.test_of-t-requires
-test_of-t-requires c = search laws
-
-pub enum_told-1 : goal.enum_told-1
-enum_told-1 c = search laws
-
-pub enum_told-in-No : goal.enum_told-in-No
-enum_told-in-No c = search laws
-
-pub enum_known-t : goal.enum_known-t
-enum_known-t c = search laws
-
-pub returns-in-Yes : goal.returns-in-Yes
-returns-in-Yes c = search laws
-
-pub returns-in-No : goal.returns-in-No
-returns-in-No c = search laws
-
-pub returns-in-Wrong : goal.returns-in-Wrong
-returns-in-Wrong c = search laws
+pub returns : goal.returns
+returns c = test-bool _ c.test_of.ensures _ c.in_ok-test_of.was
