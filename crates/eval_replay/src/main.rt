@@ -2,10 +2,10 @@
 #![tactic(auto)]
 
 use faults::Fault;
-use value::Value;
 use replay_io::within;
 use std::io;
 use std::io::{Read, Write};
+use value::Value;
 
 // Room for the largest record.
 const TABLE_WORDS: usize = 16388;
@@ -13,10 +13,7 @@ const TABLE_WORDS: usize = 16388;
 const LOCALS: usize = 16;
 
 fn dest_of(d: u64) -> Option<u64> {
-    if d == 0 {
-        return None;
-    }
-    Some(d - 1)
+    d.checked_sub(1)
 }
 
 fn write_answer<W: Write>(output: &mut W, a: Result<Value, Fault>) -> io::Result<()> {
