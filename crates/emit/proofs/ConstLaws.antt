@@ -16,10 +16,10 @@ use lib.Seq.{length-take-le, take_all, take-suc-set, drop-cons, get_or-take}
 use mir.Syntax.{w64}
 use mir.Val.{to_z}
 use mir.ValLaws.{of_z-to_z}
-use borrow.Author.Tests.{lt-ltb, le-ltb, eq-eqb, ne_eqb, eqb-true}
+use borrow.Author.Tests.{lt-ltb, le-ltb, eq-eqb, eqb-true}
 use Rattle.faults.specs.Numbers.{no_slot, no_fit}
 use Rattle.int64.proofs.sign.Laws.{never}
-use Rattle.value.specs.Value.{Datum, nil, bool, int, float, kind_of, payload_of, of_pair, datum_of, datums}
+use Rattle.value.specs.Value.{Datum, nil, bool, int, float, kind_of, payload_of, of_pair, datums}
 use Rattle.value.proofs.PairLaws.{datums-length, datum-at}
 use Rattle.insns.specs.declared.op.Op.{Op}
 use Rattle.insns.specs.declared.op.Slot.TheVariants as Slot
@@ -53,14 +53,6 @@ alike_is (float p) nil e = never (sym e)
 alike_is (float p) (bool b) e = never (sym e)
 alike_is (float p) (int b) e = never (sym e)
 alike_is (float p) (float q) e = ap float (eqb-true p q e)
-
--- kinds first, then payloads
-module _ (k p kind payload : ℕ) where
-  pub kinds-same : {r : Bool} → k ≡ kind → r ≡ eqb p payload → r ≡ (eqb k kind && eqb p payload)
-  kinds-same e h = rw (eq-eqb k kind e) h
-
-  pub kinds-apart : (k ≡ kind → ⊥) → false ≡ (eqb k kind && eqb p payload)
-  kinds-apart h = rw (ne_eqb k kind h)
 
 -- a literal is its kind and its payload
 module _ {k p : ℕ} (l : Literal k p) where

@@ -3,13 +3,13 @@ use Rattle.std.specs.Prelude.{Option, Some, None, Result, Ok, Err}
 use Rattle.faults.specs.declared.Fault.{Fault}
 use mathlib.Core.Path.{◌≡◌, sym, ap, ◌∙◌}
 use mathlib.Core.List.{List, [], ◌∷◌}
-use Prim.Native.Nat.{ℕ, ◌+◌, ◌-◌, ◌<◌, ◌≤◌, max}
+use Prim.Native.Nat.{ℕ, ◌+◌, ◌<◌, ◌≤◌, max}
 use native.Mathlib.Numerals.{add-one}
 use native.Mathlib.Omega.{arith}
 use lib.ListN.{length, take, set, length-set}
 use lib.Seq.{length-take-le, take-suc-set}
 use borrow.Author.Tests.{lt-ltb, le-ltb, eq-eqb, ne_eqb}
-use Rattle.faults.specs.Numbers.{no_register, no_room, no_fit}
+use Rattle.faults.specs.Numbers.{no_register, no_room}
 use Rattle.faults.specs.Limits.{max_registers}
 use Rattle.insns.specs.declared.Insn.{Insn}
 use Rattle.insns.specs.declared.op.Op.{Op}
@@ -34,8 +34,8 @@ module _ {b : Bufs} {x : Result (ℕ × St) Fault} {m : Res (ℕ × State)} wher
   go k e h = rw (← h.is, e)
 
   -- a refusal is handed on
-  pub stop : (k : ℕ × State → Res (ℕ × State)) {n : Fault} → x ≡ Err n → Says b x m → Says b x (bind m k)
-  stop k e h = record { is = rw (← h.is, e); fit = h.fit }
+  pub stop : (k : ℕ × State → Res (ℕ × State)) {f : Fault} {r : Result (ℕ × St) Fault} → x ≡ Err f → r ≡ Err f → Says b x m → Says b r (bind m k)
+  stop k e q h = record { is = rw (← h.is, e, q); fit = rw q tt }
 
   pub kept : {d : ℕ} {s : St} → x ≡ Ok (d, s) → Says b x m → Fit b s
   kept e h = rw e at h.fit
@@ -46,10 +46,6 @@ module _ {b : Bufs} {x : Result (ℕ × St) Fault} {m : Res (ℕ × State)} wher
   -- the next leaf takes the answer as it is
   pub chain : (k : ℕ × State → Res (ℕ × State)) {b' : Bufs} {r : Result (ℕ × St) Fault} → Says b x m → (FitAns b x → Says b' r (bind (read b x) k)) → Says b' r (bind m k)
   chain k h g = let s = g h.fit in record { is = s.is ∙ ap (λ (q : Res (ℕ × State)). bind q k) h.is; fit = s.fit }
-
--- a refusal that came passes a leaf by
-pub passed : (c : List ℕ) {x : Result (ℕ × St) Fault} {n : Fault} (f : ℕ × State → Res (ℕ × State)) → x ≡ Err n → After c c x x f
-passed c f e ks ps h = record { is = rw e; fit = h }
 
 -- a leaf that goes on from what was got
 pub came : (c c' : List ℕ) {x r : Result (ℕ × St) Fault} {a : ℕ} {s : St} (f : ℕ × State → Res (ℕ × State)) → x ≡ Ok (a, s) →
@@ -82,10 +78,6 @@ dest-any e h c ks ps fit = rw e (h c ks ps fit)
 -- ---- words
 
 module _ (c : List ℕ) (st : St) {made : Option Insn} (d : ℕ) where
-  pub emit-refused : made ≡ None → Steps c c st (Err no_fit) (store_d made d)
-  unfolding store_d
-  emit-refused e ks ps fit = record { is = rw e; fit = tt }
-
   pub emit-stored : {w : Insn} → made ≡ Some w → st.count < length c →
       Steps c (set c st.count w.bits) st (Ok (d, (record { count = st.count + 1; slots = st.slots; next = st.next; frame = st.frame }))) (store_d made d)
   unfolding store_d
@@ -109,10 +101,6 @@ emit-op {c} {st = st} d op e h ks ps fit = says-by (ap (λ (q : Option Insn). st
 
 -- the destination, then the instruction
 module _ {c : List ℕ} {st : St} {y : Result (ℕ × St) Fault} (dst : Option ℕ) (to : (c : List ℕ) → Steps c c st y (dest_d dst)) (op : ℕ → Op) where
-  pub put-stop : {n : Fault} → y ≡ Err n → Steps c c st y (put_d op dst)
-  unfolding put_d
-  put-stop e ks ps fit = stop _ e (to c ks ps fit)
-
   pub put_go : {c' : List ℕ} {d : ℕ} {s : St} {r : Result (ℕ × St) Fault} → y ≡ Ok (d, s) → Steps c c' s r (emit_d (op d) d) → Steps c c' st r (put_d op dst)
   unfolding put_d
   put_go e h ks ps fit = let z = to c ks ps fit in says-by (go _ e z) (h ks ps (kept e z))
@@ -123,12 +111,6 @@ fit_free free f = rw free (record { words = f.words; consts = f.consts })
 
 -- the operand, the destination, then the instruction
 module _ {c : List ℕ} {x y : Result (ℕ × St) Fault} {a : ℕ} {s z : St} (dst : Option ℕ) {mark : ℕ} (got : x ≡ Ok (a, s)) (free : z ≡ freed s mark) (to : (c : List ℕ) → Steps c c z y (dest_d dst)) (op : ℕ → ℕ → Op) where
-  pub after_stop : {n : Fault} → y ≡ Err n → After c c x y (put_to op dst mark)
-  unfolding put_to
-  after_stop e =
-      came c c (put_to op dst mark) got λ ks ps fit.
-      says-by (ap (λ (q : St). put_d (op a) dst (st_of (bufs c ks ps) q)) free) (put-stop dst to (op a) e ks ps (fit_free free fit))
-
   pub after-go : {c' : List ℕ} {made : Option Insn} {d : ℕ} {s' : St} {r : Result (ℕ × St) Fault} → y ≡ Ok (d, s') → made ≡ made_of (op a d) → Steps c c' s' r (store_d made d) → After c c' x r (put_to op dst mark)
   unfolding put_to
   after-go {c'} {d = d} e m h =
@@ -163,4 +145,4 @@ pub tail-arm : {tail arm : Tail} (d a : ℕ) {r : Option Insn} → tail ≡ arm 
 tail-arm d a e h = h ∙ ap (λ (q : Tail). made_of (tail_op q d a)) (sym e)
 
 pub ruleset leaves =
-    (alloc-none, alloc-next, dest-to, dest-any, emit-refused, emit-stored, emit-full, emit-op, put-stop, put_go, passed, after_stop, after-go, move-there, move-moved, three_made, shift_made, tail-arm)
+    (alloc-none, alloc-next, dest-to, dest-any, emit-stored, emit-full, emit-op, put_go, after-go, move-there, move-moved, three_made, shift_made, tail-arm)

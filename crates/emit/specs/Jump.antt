@@ -1,26 +1,23 @@
 -- Branches and patching: the steps that the generator's rules of branches are made of. A branch is emitted with displacement 0, and its position is
 -- kept in a list until its target is known.
 use Rattle.insns.specs.declared.Insn.{Insn}
-use Rattle.std.specs.Prelude.{Bool, true, false, cond, List, [], ◌∷◌, ◌++◌, ℕ, eqb, ltb, pos, Option}
+use Rattle.std.specs.Prelude.{Bool, true, false, cond, List, [], ◌∷◌, ◌++◌, ℕ, ltb, pos, Option}
 use Rattle.faults.specs.Numbers.{no_room}
 use Rattle.insns.specs.declared.op.Op.{Op}
 use Rattle.insns.specs.declared.op.Cmp.{Cmp as JumpCmp}
 use Rattle.insns.specs.declared.op.Disp.{Disp}
 use Rattle.insns.specs.declared.op.Sense.{Sense}
-use Rattle.insns.specs.declared.op.Sense.TheVariants as Sense
 use Rattle.insns.specs.Insns.{made_of}
-use Rattle.decode.specs.Patch.{patch_of, patch_all, patched_number, Patching}
+use Rattle.decode.specs.Patch.{patch_of, patch_all, Patching}
 use Rattle.fold.specs.declared.How.{How}
-use Rattle.fold.specs.declared.How.TheVariants as How
-use Rattle.emit.specs.State.{Res, done, fail, bind as ◌>>=◌, State, here, with_words, release, store_d, emit_d}
+use Rattle.emit.specs.State.{Res, done, fail, bind as ◌>>=◌, checked, State, here, with_words, release, store_d, emit_d}
 use Rattle.emit.specs.Steps.{load_op, raw_true, raw_false}
 
 -- ---- patching
 
--- the words that patching left, or its number (8, 10, 11, 12)
+-- the words that patching left, or its fault (8, 10, 11, 12)
 unfoldable pub patched_d : Patching → ℕ → State → Res (ℕ × State)
-patched_d r d s =
-    cond (eqb (patched_number r.answer) 0) (done (d, with_words r.words s)) (fail (patched_number r.answer))
+patched_d r d s = checked r.answer (d, with_words r.words s)
 
 -- the branch at p goes to the next word (`patch_jump`)
 abbrev pub patch_d : ℕ → ℕ → State → Res (ℕ × State)

@@ -1,8 +1,7 @@
--- Plumbing: for branches what Read is for values. A branch answers how many jumps stand at the front of the lent jump list (`Jumps`); the definition
--- gives the list of their positions.
+-- Plumbing: for branches what Read is for values. A branch answers how many jumps stand at the front of the lent jump list; the definition gives the list
+-- of their positions.
 use Rattle.faults.specs.declared.Fault.{Fault}
-use Rattle.std.specs.Prelude.{◌≡◌, Bool, cond, List, ℕ, ◌+◌, ◌≤◌, eqb, length, take, drop, Result, Ok, Err}
-use Rattle.decode.specs.Patch.{patched_number}
+use Rattle.std.specs.Prelude.{◌≡◌, Bool, List, ℕ, ◌+◌, ◌≤◌, length, take, drop, Result, Ok, Err}
 use Rattle.emit.specs.declared.state.St.{St}
 use Rattle.emit.specs.State.{Res, done, fail, bind, State}
 use Rattle.emit.specs.Read.{Bufs, bufs, st_of, Fit, read, FitAns}
@@ -13,11 +12,11 @@ use Rattle.emit.specs.Jump.{junction_to}
 -- the definition's answer, with the buffers b and the jump list js as the code leaves them
 abbrev pub read_jumps : (b : Bufs) (js : List ℕ) → Result (ℕ × St) Fault → Res (List ℕ × State)
 read_jumps b js (Ok (n, st)) = done (take n js, st_of b st)
-read_jumps b js (Err n) = fail n
+read_jumps b js (Err f) = fail f
 
 abbrev pub FitJumps : (b : Bufs) (js : List ℕ) → Result (ℕ × St) Fault → Type 0
 FitJumps b js (Ok (n, st)) = (Fit b st) × (n ≤ length js)
-FitJumps b js (Err n) = Unit {0}
+FitJumps b js (Err f) = Unit {0}
 
 -- the answer r is what the definition gives
 pub record Lists (b : Bufs) (js : List ℕ) (r : Result (ℕ × St) Fault) (m : Res (List ℕ × State)) : Type 0 where
@@ -37,14 +36,10 @@ AfterJumping c c' js x r f =
 
 -- ---- patching
 
--- what the code makes of an answer of `patch`
-abbrev pub patched_ans : Result (Unit {0}) Fault → ℕ → St → Result (ℕ × St) Fault
-patched_ans p d st = cond (eqb (patched_number p) 0) (Ok (d, st)) (Err (patched_number p))
-
 -- the words of an answer are in the buffer c
 abbrev pub Counted : (c : List ℕ) → Result (ℕ × St) Fault → Type 0
 Counted c (Ok (r, st)) = st.count ≤ length c
-Counted c (Err n) = Unit {0}
+Counted c (Err f) = Unit {0}
 
 -- ---- both sides of And or Or: the left side's n jumps stand at the front of the list js, the right side's after them
 

@@ -61,11 +61,11 @@ freed st top = record { count = st.count; slots = st.slots; next = top; frame = 
 -- the definition's answer, with the buffers as the code leaves them
 abbrev pub read : Bufs → Result (ℕ × St) Fault → Res (ℕ × State)
 read b (Ok (r, st)) = done (r, st_of b st)
-read b (Err n) = fail n
+read b (Err f) = fail f
 
 abbrev pub FitAns : Bufs → Result (ℕ × St) Fault → Type 0
 FitAns b (Ok (r, st)) = Fit b st
-FitAns b (Err n) = Unit {0}
+FitAns b (Err f) = Unit {0}
 
 -- the answer r is what the definition gives
 pub record Says (b : Bufs) (r : Result (ℕ × St) Fault) (m : Res (ℕ × State)) : Type 0 where

@@ -1,22 +1,28 @@
 -- The generator's state, and the steps that change it: registers, constant slots, words. A step gives an answer and the state after it, or a refusal.
 use Rattle.insns.specs.declared.Insn.{Insn}
-use Rattle.std.specs.Prelude.{Bool, false, cond, List, [], ◌∷◌, ◌++◌, ℕ, suc, ◌+◌, max, ltb, eqb, ℤ, pos, negsuc, length, Option, Some, None}
-use Rattle.faults.specs.Numbers.{no_register, no_slot, no_room}
+use Rattle.std.specs.Prelude.{Bool, false, cond, List, [], ◌∷◌, ◌++◌, ℕ, suc, ◌+◌, max, ltb, eqb, ℤ, pos, negsuc, length, Option, Some, None, Ok, Err}
+use Rattle.faults.specs.declared.Fault.{Fault}
+use Rattle.faults.specs.Numbers.{no_register, no_slot, no_room, no_fit}
+use Rattle.faults.specs.Faults.{Checked}
 use Rattle.faults.specs.Limits.{max_registers}
 use Rattle.value.specs.Value.{Datum, nil, bool, int, float}
 use Rattle.insns.specs.declared.op.Op.{Op}
-use Rattle.insns.specs.Fields.{made_number}
 use Rattle.insns.specs.Insns.{made_of}
 
--- an answer, or the number of a refusal
+-- an answer, or the fault of a refusal
 pub data Res (A : Type 0) : Type 0 where
   done : A → Res A
-  fail : ℕ → Res A
+  fail : Fault → Res A
 
 -- one step after another: a refusal ends them. A `do` block writes it `x ← step`
 abbrev pub bind : {A B : Type 0} → Res A → (A → Res B) → Res B
 bind (done a) k = k a
-bind (fail n) k = fail n
+bind (fail f) k = fail f
+
+-- a step that answers nothing, as far as it is not refused
+abbrev pub checked : {A : Type 0} → Checked → A → Res A
+checked (Ok u) a = done a
+checked (Err f) a = fail f
 
 -- The words and the constants so far, how many of each there is room for, the next free register and the highest register count.
 pub record State : Type 0 where
@@ -101,7 +107,7 @@ slot_d c s =
 
 -- one word more; 9 where an operand does not fit its field, 7 where there is no room. The register d, whose value the word makes, is the answer
 unfoldable pub store_d : Option Insn → ℕ → State → Res (ℕ × State)
-store_d None d s = fail (made_number None)
+store_d None d s = fail no_fit
 store_d (Some w) d s = cond (ltb (here s) s.cap) (done (d, with_words (s.words ++ (w.bits ∷ [])) s)) (fail no_room)
 
 -- the word of an instruction (`emit`)

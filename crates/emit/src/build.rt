@@ -6,11 +6,11 @@ ghost use Rattle.insns.specs.declared.op.Op.{Op};
 ghost use Rattle.emit.specs.Jump.{to_patch, sense_of};
 ghost use Rattle.emit.specs.Read.{literal_bits};
 
+use insns::Insn;
 use insns::bits::signed_bits;
 use insns::encode::{arith_op, jump_imm_op, jump_op, one_word, two_word};
 use insns::fields::{make0, make2, make3, raw_bits};
 use insns::op::{Arith, Cmp, Imm16, Imm40};
-use insns::Insn;
 
 // The sizes of a register's field, of a literal's and of a raw immediate's.
 const REGISTER: u64 = 65536;

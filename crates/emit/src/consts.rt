@@ -1,15 +1,15 @@
 // The constant slots. Equal constants share a slot: a literal takes the first slot that holds its kind and its payload, and a new one only if there is none.
 // Only the slots that this compile has taken are looked at; what lies behind them in the lent buffers is never read.
-ghost use Rattle.std.specs.Prelude.{◌≡◌, ◌&&◌, eqb};
+ghost use Rattle.std.specs.Prelude.{◌≡◌};
 ghost use Rattle.insns.specs.declared.op.Op.{Op};
 ghost use Rattle.insns.specs.declared.op.Slot.TheVariants as Slot;
 ghost use Rattle.emit.specs.State.{seek, emit_d};
 ghost use Rattle.emit.specs.Steps.{const_to};
 ghost use Rattle.emit.specs.Read.{bufs, st_of, held_in, const_of, Held, Literal, Fit, Says, Steps};
 
-use faults::Fault;
 use crate::state::St;
 use crate::word::emit;
+use faults::Fault;
 use insns::Insn;
 
 // The kinds that a constant has in its slot.
@@ -17,42 +17,32 @@ pub(crate) const INT_SLOT: u8 = 2;
 
 pub(crate) const FLOAT_SLOT: u8 = 3;
 
-// Whether two constants are one. Bits are compared, so 0.0 and -0.0 stay apart, and so do an Int and a Float of one pattern.
-fn same_const(k: u8, p: u64, kind: u8, payload: u64) -> bool
-    ensures { result ≡ (eqb k kind && eqb p payload) }
-{
-    if k == kind {
-        return p == payload;
-    }
-    false
-}
-
-// The first of the n slots that holds a constant, or n if none does.
+// The first of the n slots that holds a constant, or n if none does. Bits are compared, so 0.0 and -0.0 stay apart, and so do an Int and a Float of one
+// pattern.
 fn find_const(kinds: &[u8], payloads: &[u64], n: usize, kind: u8, payload: u64) -> usize
     requires { (Held kinds.now payloads.now n) × (Literal kind payload) }
     ensures { result ≡ seek (const_of kind payload) (held_in kinds.now payloads.now n) }
 {
-    let mut k = 0;
-    while k < n {
-        if same_const(kinds[k], payloads[k], kind, payload) {
+    for k in 0..n {
+        if kinds[k] == kind && payloads[k] == payload {
             return k;
         }
-        k += 1;
     }
-    k
+    n
 }
 
-// Loads the constant of slot k into the register d. Refuses with 9 if k has more than 32 bits.
+// Loads the constant of slot k into the register d, if 32 bits hold k.
 fn load_slot(code: &mut [u64], k: usize, d: u16, st: St) -> Result<(u16, St), Fault>
     ensures { Steps code.old code.new st result (emit_d (Op.Slot Slot.LoadConst d k) d) }
 {
-    if 4294967295 < k {
+    let Ok(slot) = u32::try_from(k) else {
         return Err(Fault::NoFit);
-    }
-    emit(code, Insn::load_const(d, k as u32), d, st)
+    };
+    emit(code, Insn::load_const(d, slot), d, st)
 }
 
-// A constant's slot and the word that loads it. Refuses with 6 only if no slot holds the constant and none is free: of kinds and payloads the shorter counts.
+// A constant's slot and the word that loads it. It is refused only if no slot holds the constant and none is free: of kinds and payloads
+// the shorter counts.
 pub(crate) fn push_const(
     code: &mut [u64],
     kinds: &mut [u8],
@@ -71,23 +61,10 @@ pub(crate) fn push_const(
     if k < n {
         return load_slot(code, k, d, st);
     }
-    if kinds.len() <= n {
-        return Err(Fault::NoSlot);
-    }
-    if payloads.len() <= n {
+    if kinds.len() <= n || payloads.len() <= n {
         return Err(Fault::NoSlot);
     }
     kinds[n] = kind;
     payloads[n] = payload;
-    load_slot(
-        code,
-        n,
-        d,
-        St {
-            count: st.count,
-            slots: n + 1,
-            next: st.next,
-            frame: st.frame,
-        },
-    )
+    load_slot(code, n, d, St { slots: n + 1, ..st })
 }

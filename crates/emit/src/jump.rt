@@ -1,19 +1,18 @@
 // Branches and patching. The position of a branch is listed until its target is known; the lists stand in one lent slice, and a place is free again once
 // its jump is patched.
-ghost use Rattle.std.specs.Prelude.{◌≡◌, ◌+◌, ◌≤◌, length, take, drop};
+ghost use Rattle.std.specs.Prelude.{◌≡◌, ◌+◌, ◌≤◌, length, take};
 ghost use Rattle.insns.specs.Insns.{made_of};
 ghost use Rattle.emit.specs.State.{emit_d};
 ghost use Rattle.emit.specs.Read.{Steps, After};
 ghost use Rattle.emit.specs.Jump.{jmp_op, leap_d, patch_d, patches_d, how_op, one_to, pair_to, turn_d, true_d, bool_d};
-ghost use Rattle.emit.specs.Lists.{patched_ans, Jumping, AfterJumping, Joinable, Joined, Counted};
+ghost use Rattle.emit.specs.Lists.{Jumping, AfterJumping, Joinable, Joined, Counted};
 
+use crate::state::St;
+use crate::word::{FALSE, TRUE, emit, emit_load};
 use faults::Fault;
-use insns::Insn;
-use crate::state::{St, free_to};
-use crate::word::{RAW_FALSE, RAW_TRUE, emit, emit_load};
-use decode::patch::number_of;
 use fold::How;
-use insns::op::{Cmp, Imm40};
+use insns::Insn;
+use insns::op::Cmp;
 
 // A jmp whose displacement is to be patched.
 fn emit_jmp(code: &mut [u64], d: u16, st: St) -> Result<(u16, St), Fault>
@@ -22,22 +21,21 @@ fn emit_jmp(code: &mut [u64], d: u16, st: St) -> Result<(u16, St), Fault>
     emit(code, crate::build::jmp(), d, st)
 }
 
-// A branch, whose position is the one jump of the list. Refuses with 7 if the list has no room.
-fn jump(code: &mut [u64], jumps: &mut [u64], made: Option<Insn>, st: St) -> Result<(usize, St), Fault>
+// A branch, whose position is the one jump of the list, if that has room.
+fn jump(
+    code: &mut [u64],
+    jumps: &mut [u64],
+    made: Option<Insn>,
+    st: St,
+) -> Result<(usize, St), Fault>
     ensures { Jumping code.old code.new jumps.new st result (leap_d made (length jumps.old)) }
 {
-    if jumps.len() == 0 {
+    if jumps.is_empty() {
         return Err(Fault::NoRoom);
     }
-    let p = st.count;
-    let x = emit(code, made, 0, st);
-    match x {
-        Ok((_, s)) => {
-            jumps[0] = p as u64;
-            Ok((1, s))
-        }
-        Err(n) => Err(n),
-    }
+    let (_, s) = emit(code, made, 0, st)?;
+    jumps[0] = st.count as u64;
+    Ok((1, s))
 }
 
 // The branch that tests one register. Its displacement is filled in later, when the jump is patched to its target.
@@ -51,33 +49,32 @@ fn how_word(how: How, a: u16) -> Option<Insn>
 }
 
 // The value is in a register: the branch that tests it.
-pub fn jump_one(code: &mut [u64], jumps: &mut [u64], how: How, top: u16, x: Result<(u16, St), Fault>) -> Result<(usize, St), Fault>
+pub fn jump_one(
+    code: &mut [u64],
+    jumps: &mut [u64],
+    how: How,
+    top: u16,
+    x: Result<(u16, St), Fault>,
+) -> Result<(usize, St), Fault>
     ensures { AfterJumping code.old code.new jumps.new x result (one_to how (length jumps.old) top) }
 {
-    match x {
-        Ok((a, s)) => jump(code, jumps, how_word(how, a), free_to(s, top)),
-        Err(f) => Err(f),
-    }
+    let (a, s) = x?;
+    jump(code, jumps, how_word(how, a), s.free_to(top))
 }
 
 // Both values are in registers, the left one in a: the branch that compares them.
-pub fn jump_pair(code: &mut [u64], jumps: &mut [u64], cmp: Cmp, a: u16, top: u16, y: Result<(u16, St), Fault>) -> Result<(usize, St), Fault>
+pub fn jump_pair(
+    code: &mut [u64],
+    jumps: &mut [u64],
+    cmp: Cmp,
+    a: u16,
+    top: u16,
+    y: Result<(u16, St), Fault>,
+) -> Result<(usize, St), Fault>
     ensures { AfterJumping code.old code.new jumps.new y result (pair_to cmp a (length jumps.old) top) }
 {
-    match y {
-        Ok((b, s)) => jump(code, jumps, crate::build::jump(cmp, a, b), free_to(s, top)),
-        Err(f) => Err(f),
-    }
-}
-
-fn patched(p: Result<(), Fault>, d: u16, st: St) -> Result<(u16, St), Fault>
-    ensures { result ≡ patched_ans p d st }
-{
-    let f = number_of(p);
-    if f != faults::NONE {
-        return Err(f);
-    }
-    Ok((d, st))
+    let (b, s) = y?;
+    jump(code, jumps, crate::build::jump(cmp, a, b), s.free_to(top))
 }
 
 // Points a jump that was emitted at p at the next word. Displacements count instructions from the one after the jump.
@@ -86,8 +83,8 @@ fn patch_jump(code: &mut [u64], p: usize, d: u16, st: St) -> Result<(u16, St), F
     ensures { Steps code.old code.new st result (patch_d p d) }
 {
     let n = st.count;
-    let r = decode::patch::patch(&mut code[..n], p, n as u64);
-    patched(r, d, st)
+    decode::patch::patch(&mut code[..n], p, n as u64)?;
+    Ok((d, st))
 }
 
 // Points a set of jumps, as a test can produce more than one, at the same word.
@@ -96,43 +93,29 @@ fn patch_jumps(code: &mut [u64], jumps: &[u64], d: u16, st: St) -> Result<(u16, 
     ensures { Steps code.old code.new st result (patches_d jumps.now d) }
 {
     let n = st.count;
-    let r = decode::patch::patch_jumps(&mut code[..n], jumps, n as u64);
-    patched(r, d, st)
-}
-
-// The k jumps from n on, moved to the list's front: the n before them are patched, and their places are used again.
-fn slide(jumps: &mut [u64], n: usize, k: usize)
-    requires { n + k ≤ length jumps.old }
-    ensures { take k jumps.new ≡ take k (drop n jumps.old) }
-{
-    let mut j = 0;
-    while j < k {
-        jumps[j] = jumps[n + j];
-        j += 1;
-    }
+    decode::patch::patch_jumps(&mut code[..n], jumps, n as u64)?;
+    Ok((d, st))
 }
 
 // Both sides of And or Or are made, the left one with n jumps. In one sense of the test they go where the right side's go (`out`); in the other they only
-// skip the right side, which is what the patch is for.
-pub fn join(code: &mut [u64], jumps: &mut [u64], out: bool, n: usize, y: Result<(usize, St), Fault>) -> Result<(usize, St), Fault>
+// skip the right side, which is what the patch is for; the right side's k jumps are then moved to the list's front.
+pub fn join(
+    code: &mut [u64],
+    jumps: &mut [u64],
+    out: bool,
+    n: usize,
+    y: Result<(usize, St), Fault>,
+) -> Result<(usize, St), Fault>
     requires { Joinable code.old jumps.old n y }
     ensures { Joined code.old code.new jumps.old jumps.new out n y result }
 {
-    let Ok((k, s)) = y else {
-        return y;
-    };
+    let (k, s) = y?;
     if out {
-        let all = n + k;
-        return Ok((all, s));
+        return Ok((n + k, s));
     }
-    let z = patch_jumps(code, &jumps[..n], 0, s);
-    match z {
-        Ok((_, t)) => {
-            slide(jumps, n, k);
-            Ok((k, t))
-        }
-        Err(f) => Err(f),
-    }
+    let (_, t) = patch_jumps(code, &jumps[..n], 0, s)?;
+    jumps.copy_within(n..n + k, 0);
+    Ok((k, t))
 }
 
 // The then side of a ternary is made: a jmp over the else side, and the jumps of the test go to that side.
@@ -140,21 +123,21 @@ pub fn turn(code: &mut [u64], jumps: &[u64], d: u16, st: St) -> Result<(u16, St)
     requires { st.count ≤ length code.old }
     ensures { Steps code.old code.new st result (turn_d jumps.now d) }
 {
-    let x = emit_jmp(code, d, st);
-    let Ok((_, s)) = x else {
-        return x;
-    };
+    let (_, s) = emit_jmp(code, d, st)?;
     patch_jumps(code, jumps, d, s)
 }
 
 // The else side is made: the jmp at p, which jumps over it, goes behind it.
-pub fn settle(code: &mut [u64], p: usize, d: u16, x: Result<(u16, St), Fault>) -> Result<(u16, St), Fault>
+pub fn settle(
+    code: &mut [u64],
+    p: usize,
+    d: u16,
+    x: Result<(u16, St), Fault>,
+) -> Result<(u16, St), Fault>
     requires { Counted code.old x }
     ensures { After code.old code.new x result (λ y. patch_d p d y.1) }
 {
-    let Ok((_, s)) = x else {
-        return x;
-    };
+    let (_, s) = x?;
     patch_jump(code, p, d, s)
 }
 
@@ -163,12 +146,9 @@ fn load_true(code: &mut [u64], jumps: &[u64], p: usize, d: u16, st: St) -> Resul
     requires { st.count ≤ length code.old }
     ensures { Steps code.old code.new st result (true_d jumps.now p d) }
 {
-    let x = patch_jumps(code, jumps, d, st);
-    let Ok((_, s)) = x else {
-        return x;
-    };
-    let y = emit_load(code, Imm40 { raw: RAW_TRUE }, d, s);
-    settle(code, p, d, y)
+    let (_, s) = patch_jumps(code, jumps, d, st)?;
+    let x = emit_load(code, TRUE, d, s);
+    settle(code, p, d, x)
 }
 
 // A condition as a boolean value, from the jumps of its branch: load False, jmp, load True. The branch it compiles to is what decides the result, so a
@@ -177,14 +157,7 @@ pub fn gen_bool(code: &mut [u64], jumps: &[u64], d: u16, st: St) -> Result<(u16,
     requires { st.count ≤ length code.old }
     ensures { Steps code.old code.new st result (bool_d jumps.now d) }
 {
-    let x = emit_load(code, Imm40 { raw: RAW_FALSE }, d, st);
-    let Ok((_, s)) = x else {
-        return x;
-    };
-    let p = s.count;
-    let y = emit_jmp(code, d, s);
-    let Ok((_, t)) = y else {
-        return y;
-    };
-    load_true(code, jumps, p, d, t)
+    let (_, s) = emit_load(code, FALSE, d, st)?;
+    let (_, t) = emit_jmp(code, d, s)?;
+    load_true(code, jumps, s.count, d, t)
 }

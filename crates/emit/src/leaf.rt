@@ -5,10 +5,10 @@ ghost use Rattle.table.specs.Tree.{Leaf, leaf_kind, kind_of};
 ghost use Rattle.emit.specs.Steps.{const_d, leaf_d};
 ghost use Rattle.emit.specs.Read.{bufs, st_of, const_of, Fit, Says, Literal, LeafReady};
 
-use faults::Fault;
 use crate::consts::{FLOAT_SLOT, INT_SLOT, push_const};
 use crate::state::{St, dest};
-use crate::word::{RAW_FALSE, RAW_NIL, RAW_TRUE, put_load};
+use crate::word::{FALSE, NIL, TRUE, put_load};
+use faults::Fault;
 use fold::literal::fits_imm40;
 use insns::op::Imm40;
 
@@ -26,10 +26,7 @@ fn gen_const(
     ensures { Says (bufs code.new kinds.new payloads.new) result
         (const_d (const_of kind payload) dst (st_of (bufs code.old kinds.old payloads.old) st)) }
 {
-    let x = dest(dst, st);
-    let Ok((d, s)) = x else {
-        return x;
-    };
+    let (d, s) = dest(dst, st)?;
     push_const(code, kinds, payloads, kind, payload, d, s)
 }
 
@@ -53,9 +50,9 @@ pub fn gen_value(
     let k = table::kind_at(nodes, i);
     let p = table::payload_at(nodes, i);
     match k {
-        table::NIL => put_load(code, Imm40 { raw: RAW_NIL }, dst, st),
-        table::TRUE => put_load(code, Imm40 { raw: RAW_TRUE }, dst, st),
-        table::FALSE => put_load(code, Imm40 { raw: RAW_FALSE }, dst, st),
+        table::NIL => put_load(code, NIL, dst, st),
+        table::TRUE => put_load(code, TRUE, dst, st),
+        table::FALSE => put_load(code, FALSE, dst, st),
         table::INT => {
             let z = int64::sign::signed(p);
             if fits_imm40(z) {

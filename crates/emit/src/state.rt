@@ -1,10 +1,11 @@
 // The generator's state, and its registers. Variables come first in a frame, temporaries above them. Temporaries are handed out and given back in stack
 // order, so a caller notes the top (`next`) before generating subexpressions and frees back to it once it has consumed their results.
-ghost use Rattle.std.specs.Prelude.{◌≡◌, List, ℕ, max};
+ghost use Rattle.std.specs.Prelude.{◌≡◌, List, ℕ};
 ghost use Rattle.emit.specs.State.{alloc_d, dest_d};
 ghost use Rattle.emit.specs.Read.{freed, Steps};
 
 use faults::Fault;
+use std::cmp::max;
 
 // How many words and constants there are, the next free temporary, and the high water mark, which is the frame size that the expression needs (`Regs`).
 #[derive(Clone, Copy)]
@@ -15,41 +16,30 @@ pub struct St {
     pub frame: u16,
 }
 
-fn larger(a: u16, b: u16) -> u16
-    ensures { result ≡ max a b }
-{
-    if a < b { b } else { a }
-}
-
-// Gives back every temporary handed out since `top` was taken.
-pub(crate) fn free_to(st: St, top: u16) -> St
-    ensures { result ≡ freed st top }
-{
-    St {
-        count: st.count,
-        slots: st.slots,
-        next: top,
-        frame: st.frame,
+impl St {
+    // Gives back every temporary handed out since `top` was taken.
+    pub(crate) fn free_to(self, top: u16) -> St
+        ensures { result ≡ freed self top }
+    {
+        St { next: top, ..self }
     }
 }
 
-// Reserves one register to hold an intermediate value. Refuses with 5 if the frame is too large.
+// Reserves one register to hold an intermediate value, unless the frame is too large.
 fn alloc(st: St) -> Result<(u16, St), Fault>
     ensures { (c : List ℕ) → Steps c c st result alloc_d }
 {
-    let n = st.next;
-    if faults::MAX_REGISTERS <= n as u64 {
+    let d = st.next;
+    if faults::MAX_REGISTERS <= d as u64 {
         return Err(Fault::NoRegister);
     }
-    let m = n + 1;
-    let f = larger(st.frame, m);
+    let next = d + 1;
     Ok((
-        n,
+        d,
         St {
-            count: st.count,
-            slots: st.slots,
-            next: m,
-            frame: f,
+            next,
+            frame: max(st.frame, next),
+            ..st
         },
     ))
 }

@@ -9,7 +9,7 @@ use lib.IntN.{ℤ}
 use mir.Syntax.{w16, w64}
 use mir.Val.{SFits, to_z, of_z}
 use Rattle.insns.proofs.bits.Sign.{widens, widened}
-use Rattle.insns.specs.Fields.{make, u, raw, raw_bits}
+use Rattle.insns.specs.Fields.{make, u, raw_bits}
 use Rattle.insns.specs.Bits.{twos}
 use Rattle.insns.specs.Insns.{made_of}
 use Rattle.insns.specs.Opcodes.{arith_op, jump_op, jump_imm_op}

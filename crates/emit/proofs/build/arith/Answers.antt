@@ -1,5 +1,4 @@
 -- `build::arith` meets its contract: the literal above two registers.
-use borrow.Author.Rules.{rules}
 use Rattle.emit.proofs.build.Words.{words}
 use Rattle.emit.proofs.build.arith.Goals as goal
 

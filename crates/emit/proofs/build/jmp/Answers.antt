@@ -1,5 +1,4 @@
 -- `build::jmp` meets its contract: the opcode alone.
-use borrow.Author.Rules.{rules}
 use Rattle.emit.proofs.build.Words.{words}
 use Rattle.emit.proofs.build.jmp.Goals as goal
 

@@ -1,5 +1,4 @@
 -- `build::jump` meets its contract: the two registers.
-use borrow.Author.Rules.{rules}
 use Rattle.emit.proofs.build.Words.{words}
 use Rattle.emit.proofs.build.jump.Goals as goal
 

@@ -1,5 +1,4 @@
 -- `build::jump_imm` meets its contract: the literal above the register.
-use borrow.Author.Rules.{rules}
 use Rattle.emit.proofs.build.Words.{words}
 use Rattle.emit.proofs.build.jump_imm.Goals as goal
 

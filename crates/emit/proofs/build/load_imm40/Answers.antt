@@ -1,5 +1,4 @@
 -- `build::load_imm40` meets its contract: the raw bits above the register.
-use borrow.Author.Rules.{rules}
 use Rattle.emit.proofs.build.Words.{words}
 use Rattle.emit.proofs.build.load_imm40.Goals as goal
 

@@ -1,5 +1,4 @@
 -- `build::test` meets its contract: one register, with either opcode.
-use borrow.Author.Rules.{rules}
 use Rattle.emit.proofs.build.Words.{words}
 use Rattle.emit.proofs.build.test.Goals as goal
 

@@ -1,28 +1,26 @@
 -- `jump::join` meets its contract: by the side that the left jumps go to.
+use Rattle.std.proofs.Common.{arith, ◌≡◌, ℕ, ◌+◌, ◌≤◌, List, length, take, drop}
+use Rattle.std.proofs.lemmas.Grind.{common_steps}
+use Rattle.std.specs.List.{copy_within}
 use borrow.Author.Rules.{rules}
-use Rattle.emit.proofs.jump.JumpLaws.{joins, join-room}
+use Rattle.emit.proofs.jump.JumpLaws.{join-room, join-same, join-refused, join-moved}
 use Rattle.emit.proofs.jump.join.Goals as goal
 
-pub returns-in_default : goal.returns-in_default
-returns-in_default c = search (joins, rules)
+-- the k places from n on, copied to the front
+slid : (n k : ℕ) (l : List ℕ) → n + k ≤ length l → take k (copy_within l n (n + k) 0) ≡ take k (drop n l)
+slid n k l h = grind (arith, common_steps)
 
-pub overflow_add-all : goal.overflow_add-all
-overflow_add-all c = let h = join-room c.requires c.in-Are.is in search rules
+pub overflow_add-n : goal.overflow_add-n
+overflow_add-n c = let h = join-room c.requires c.in_ok-k.was in search rules
 
 pub returns-then-out : goal.returns-then-out
-returns-then-out c = search (joins, rules)
+returns-then-out c = join-same c.requires c.in_ok-k.was c.if-out.true
 
-pub slice_bounds-patch_jumps-end-2 : goal.slice_bounds-patch_jumps-end-2
-slice_bounds-patch_jumps-end-2 c = search (joins, rules)
+pub returns-in_err-t : goal.returns-in_err-t
+returns-in_err-t c = join-refused c.requires c.in_ok-k.was c.if-out.false c.patch_jumps.ensures c.in_err-t.was (search rules)
 
-pub patch_jumps-z-requires : goal.patch_jumps-z-requires
-patch_jumps-z-requires c = search (joins, rules)
-
-pub slide-requires : goal.slide-requires
-slide-requires c = search (joins, rules)
-
-pub returns-in-Got : goal.returns-in-Got
-returns-in-Got c = search (joins, rules)
-
-pub returns-in-No : goal.returns-in-No
-returns-in-No c = search (joins, rules)
+pub returns : goal.returns
+returns c =
+    let moved : take c.in_ok-k.k c.copy_within.new.self ≡ take c.in_ok-k.k (drop c.args.n c.args.jumps.now) =
+    rw c.copy_within.ensures.after (slid c.args.n c.in_ok-k.k c.args.jumps.now (join-room c.requires c.in_ok-k.was)) in
+    join-moved c.requires c.in_ok-k.was c.if-out.false c.patch_jumps.ensures c.in_ok-t.was moved c.copy_within.ensures.len

@@ -1,10 +1,7 @@
--- `jump::jump_one` meets its contract: the value is there, or its refusal is handed on.
+-- `jump::jump_one` meets its contract: the value is there.
 use borrow.Author.Rules.{rules}
 use Rattle.emit.proofs.jump.JumpLaws.{leaps}
 use Rattle.emit.proofs.jump.jump_one.Goals as goal
 
-pub returns-in-Got : goal.returns-in-Got
-returns-in-Got c = search (leaps, rules)
-
-pub returns-in-No : goal.returns-in-No
-returns-in-No c = search (leaps, rules)
+pub returns : goal.returns
+returns c = search (leaps, rules, c.in_ok-a.was)

@@ -1,10 +1,12 @@
 -- `jump::patch_jumps` meets its contract: as of one branch.
+use Rattle.emit.specs.Jump.{patched_d}
 use borrow.Author.Rules.{rules}
 use Rattle.emit.proofs.jump.JumpLaws.{patches}
 use Rattle.emit.proofs.jump.patch_jumps.Goals as goal
 
-pub slice_bounds-patch_jumps-end-2 : goal.slice_bounds-patch_jumps-end-2
-slice_bounds-patch_jumps-end-2 c = search (patches, rules)
+pub returns-in_err-patch_jumps : goal.returns-in_err-patch_jumps
+unfolding patched_d
+returns-in_err-patch_jumps c = search rules
 
 pub returns : goal.returns
-returns c = search (patches, rules)
+returns c = search (patches, rules, c.in_ok-patch_jumps.was)

@@ -3,8 +3,8 @@ use borrow.Author.Rules.{rules}
 use Rattle.emit.proofs.Laws.{leaves}
 use Rattle.emit.proofs.state.dest.Goals as goal
 
-pub returns-in-To : goal.returns-in-To
-returns-in-To c = search leaves
+pub returns-in-Some : goal.returns-in-Some
+returns-in-Some c = search (leaves, rules)
 
-pub returns-in-Any : goal.returns-in-Any
-returns-in-Any c = search leaves
+pub returns-in-None : goal.returns-in-None
+returns-in-None c = search (leaves, rules)
