@@ -5,66 +5,55 @@ ghost use Rattle.table.specs.Table.{node_count, kind_at, kind_fault, limit_fault
 ghost use Rattle.table.specs.Table.{shape_fault, layout_fault, dest_fault, last_fault, check_of};
 ghost use Rattle.table.specs.Nodes.{Below, Right, PayloadRight, Over, Passed};
 
-use crate::children::{arity_of, children_of, greater};
+use crate::children::{arity_of, children_of};
 use faults::Fault;
-
-// The fault of the first of two tests that holds, else none.
-fn either(a: bool, n: Fault, b: bool, m: Fault) -> Result<(), Fault>
-    ensures { result ≡ fault a n or_else fault b m }
-{
-    if a {
-        return Err(n);
-    }
-    if b {
-        return Err(m);
-    }
-    Ok(())
-}
 
 // The kind is known, the payload is 0 but for kinds 3 to 5, and a Float literal is finite: no editor writes another, so that one is damage.
 fn kind_fault(k: u64, p: u64) -> Result<(), Fault>
     ensures { result ≡ kind_fault k p }
 {
-    let idle = !((crate::INT <= k) & (k <= crate::REF));
-    either(
-        crate::TERNARY < k,
-        Fault::BadNode,
-        ((p != 0) & idle) | ((k == crate::FLOAT) & !float::bits::is_finite(p)),
-        Fault::BadNode,
-    )
+    if crate::TERNARY < k {
+        return Err(Fault::BadNode);
+    }
+    if (p != 0) & !((crate::INT <= k) & (k <= crate::REF)) {
+        return Err(Fault::BadNode);
+    }
+    if (k == crate::FLOAT) & !float::bits::is_finite(p) {
+        return Err(Fault::BadNode);
+    }
+    Ok(())
 }
 
 // First and depth are what the children give. Everything above relies on them: the children's places on first, the end of every recursion on depth.
 fn span_fault(s: Option<(usize, u64)>, f: usize, d: u64) -> Result<(), Fault>
     ensures { result ≡ span_fault s f d }
 {
-    match s {
-        None => Err(Fault::BadNode),
-        Some((e, g)) => {
-            if f != e {
-                return Err(Fault::BadNode);
-            }
-            if d == 0 {
-                return Err(Fault::BadNode);
-            }
-            if d - 1 != g {
-                return Err(Fault::BadNode);
-            }
-            Ok(())
-        }
+    let Some((e, g)) = s else {
+        return Err(Fault::BadNode);
+    };
+    if f != e {
+        return Err(Fault::BadNode);
     }
+    if d == 0 {
+        return Err(Fault::BadNode);
+    }
+    if d - 1 != g {
+        return Err(Fault::BadNode);
+    }
+    Ok(())
 }
 
 // The depth is within its limit, and a register below the base.
-fn limit_fault(k: u64, p: u64, d: u64, base: u64) -> Result<(), Fault>
-    ensures { result ≡ limit_fault k p d base }
+fn limit_fault(k: u64, p: u64, depth: u64, base: u64) -> Result<(), Fault>
+    ensures { result ≡ limit_fault k p depth base }
 {
-    either(
-        faults::MAX_DEPTH < d,
-        Fault::TooDeep,
-        (k == crate::REF) & (base <= p),
-        Fault::NotLocal,
-    )
+    if faults::MAX_DEPTH < depth {
+        return Err(Fault::TooDeep);
+    }
+    if (k == crate::REF) & (base <= p) {
+        return Err(Fault::NotLocal);
+    }
+    Ok(())
 }
 
 // The fault of node i, whose predecessors have none, by all the rules in their order.
@@ -85,14 +74,8 @@ fn full_fault(nodes: &[u64], base: u64, i: usize) -> Result<(), Fault>
     limit_fault(k, p, d, base)
 }
 
-// A choice of two numbers that are both at hand: no jump depends on it.
-fn pick(t: bool, a: u64, b: u64) -> u64
-    ensures { result ≡ cond t a b }
-{
-    if t { a } else { b }
-}
-
-fn pick_place(t: bool, a: usize, b: usize) -> usize
+// A choice of two values that are both at hand: no jump depends on it.
+fn pick<T: Copy>(t: bool, a: T, b: T) -> T
     ensures { result ≡ cond t a b }
 {
     if t { a } else { b }
@@ -138,7 +121,7 @@ fn over_right(nodes: &[u64], base: u64, i: usize, e: usize, g: u64) -> bool
         return false;
     }
     let d = crate::depth_at(nodes, i);
-    if d != greater(g, crate::depth_at(nodes, e - 1)) + 1 {
+    if d != g.max(crate::depth_at(nodes, e - 1)) + 1 {
         return false;
     }
     if faults::MAX_DEPTH < d {
@@ -157,7 +140,7 @@ fn three_right(nodes: &[u64], base: u64, i: usize, e: usize, g: u64) -> bool
         return false;
     }
     let f = crate::first_at(nodes, e - 1);
-    over_right(nodes, base, i, f, greater(g, crate::depth_at(nodes, e - 1)))
+    over_right(nodes, base, i, f, g.max(crate::depth_at(nodes, e - 1)))
 }
 
 // Whether node i is right: few tests, by the number of its children. Node i - 1, its last child if it has any, has the first e and the depth g. Minus and
@@ -171,7 +154,7 @@ fn node_right(nodes: &[u64], base: u64, i: usize, e: usize, g: u64) -> bool
         return leaf_right(nodes, base, i, k);
     }
     if k <= crate::OR {
-        return over_right(nodes, base, i, pick_place(k <= crate::NOT, i, e), g);
+        return over_right(nodes, base, i, pick(k <= crate::NOT, i, e), g);
     }
     if k != crate::TERNARY {
         return false;
@@ -194,15 +177,12 @@ fn node_fault(nodes: &[u64], base: u64, i: usize, e: usize, g: u64) -> Result<()
 fn nodes_fault(nodes: &[u64], base: u64) -> Result<(), Fault>
     ensures { result ≡ nodes_fault nodes.now base (node_count nodes.now) }
 {
-    let n = nodes.len() / 4;
-    let mut i = 0;
     let mut e = 0;
     let mut g = 0;
-    while i < n {
+    for i in 0..nodes.len() / 4 {
         node_fault(nodes, base, i, e, g)?;
         e = crate::first_at(nodes, i);
         g = crate::depth_at(nodes, i);
-        i += 1;
     }
     Ok(())
 }
@@ -242,14 +222,8 @@ fn dest_fault(dest: Option<u64>, base: u64) -> Result<(), Fault>
     ensures { result ≡ dest_fault dest base }
 {
     match dest {
-        None => Ok(()),
-        Some(r) => {
-            if base <= r {
-                Err(Fault::NotLocal)
-            } else {
-                Ok(())
-            }
-        }
+        Some(r) if base <= r => Err(Fault::NotLocal),
+        _ => Ok(()),
     }
 }
 

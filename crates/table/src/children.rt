@@ -1,13 +1,7 @@
 // What a node's children cover. The check compares it with the node's own first and depth; `complete` writes it there.
-ghost use Rattle.std.specs.Prelude.{◌≡◌, max};
+ghost use Rattle.std.specs.Prelude.{◌≡◌};
 ghost use Rattle.table.specs.Table.{arity, children};
 ghost use Rattle.table.specs.Nodes.{Below};
-
-pub fn greater(a: u64, b: u64) -> u64
-    ensures { result ≡ max a b }
-{
-    if a < b { b } else { a }
-}
 
 // How many children a kind has.
 pub fn arity_of(k: u64) -> u64
@@ -29,16 +23,12 @@ pub fn children_of(nodes: &[u64], n: u64, i: usize) -> Option<(usize, u64)>
     requires { Below nodes.now i }
     ensures { result ≡ children nodes.now n i 0 }
 {
-    let mut left = n;
     let mut e = i;
     let mut d = 0;
-    while 0 < left {
-        if e == 0 {
-            return None;
-        }
-        d = greater(d, crate::depth_at(nodes, e - 1));
-        e = crate::first_at(nodes, e - 1);
-        left -= 1;
+    for _ in 0..n {
+        let last = e.checked_sub(1)?;
+        d = d.max(crate::depth_at(nodes, last));
+        e = crate::first_at(nodes, last);
     }
     Some((e, d))
 }

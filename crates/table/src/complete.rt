@@ -43,9 +43,7 @@ fn complete_node(nodes: &mut [u64], i: usize)
 pub fn complete(nodes: &mut [u64])
     ensures { nodes.new ≡ complete_of nodes.old }
 {
-    let mut i = 0;
-    while i < nodes.len() / 4 {
+    for i in 0..nodes.len() / 4 {
         complete_node(nodes, i);
-        i += 1;
     }
 }

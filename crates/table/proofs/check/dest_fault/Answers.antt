@@ -5,11 +5,11 @@ use Rattle.table.proofs.check.dest_fault.Goals as goal
 
 ruleset laws = (parts, rules)
 
-pub returns-in-None : goal.returns-in-None
-returns-in-None c = search laws
+pub returns-in-Some : goal.returns-in-Some
+returns-in-Some c = search laws
 
-pub returns-then-base-r : goal.returns-then-base-r
-returns-then-base-r c = search laws
+pub returns-in_default : goal.returns-in_default
+returns-in_default c = search laws
 
-pub returns-else-base-r : goal.returns-else-base-r
-returns-else-base-r c = search laws
+pub returns-in_default-2 : goal.returns-in_default-2
+returns-in_default-2 c = search laws

@@ -1,23 +1,20 @@
--- `check::kind_fault` meets its contract: two tests with one number are one test.
-use mathlib.Core.Path.{◌≡◌, refl, ◌∙◌}
-use mathlib.Core.Bool.{Bool, true, false, not, ◌&&◌, ◌||◌}
-use Prim.Native.Nat.{ℕ}
-use lib.Dec.{ltb, leb, eqb}
-use borrow.Author.Rules.{rules}
-use Rattle.faults.specs.Faults.{Checked, fault, ◌or_else◌}
-use Rattle.faults.specs.Numbers.{bad_node}
-use Rattle.float.specs.Bits.{is_finite}
-use Rattle.table.specs.Table.{kind_fault}
+-- `check::kind_fault` meets its contract: a chain of tests.
+use borrow.Author.Tests.{lt-ltb, le-ltb}
+use Rattle.faults.specs.Faults.{fault, ◌or_else◌}
 use Rattle.table.proofs.check.kind_fault.Goals as goal
 
-joined : (a b : Bool) → fault (a || b) bad_node ≡ fault a bad_node or_else fault b bad_node
+pub returns-then-k-gt-TERNARY : goal.returns-then-k-gt-TERNARY
 unfolding fault ◌or_else◌
-joined true b = refl
-joined false b = refl
+returns-then-k-gt-TERNARY c = rw (lt-ltb 26 _ c.if-k-gt-TERNARY.true)
 
-given : (k p : ℕ) {r : Checked} {f : Bool} → r ≡ fault (ltb 26 k) bad_node or_else fault ((not (eqb p 0) && not (leb 3 k && leb k 5)) || (eqb k 4 && not f)) bad_node → f ≡ is_finite p →
-    r ≡ kind_fault k p
-given k p {f = f} h e = h ∙ rw (joined (not (eqb p 0) && not (leb 3 k && leb k 5)) (eqb k 4 && not f), e) refl
+pub returns-then-p-k : goal.returns-then-p-k
+unfolding fault ◌or_else◌
+returns-then-p-k c = rw (le-ltb 26 _ c.if-k-gt-TERNARY.false, c.if-p-k.true)
+
+pub returns-then-k-is_finite : goal.returns-then-k-is_finite
+unfolding fault ◌or_else◌
+returns-then-k-is_finite c = rw (le-ltb 26 _ c.if-k-gt-TERNARY.false, c.if-p-k.false, ← c.is_finite.ensures, c.if-k-is_finite.true)
 
 pub returns : goal.returns
-returns c = search (given, rules)
+unfolding fault ◌or_else◌
+returns c = rw (le-ltb 26 _ c.if-k-gt-TERNARY.false, c.if-p-k.false, ← c.is_finite.ensures, c.if-k-is_finite.false)

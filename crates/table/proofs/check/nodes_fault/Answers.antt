@@ -22,14 +22,6 @@ unfolding nodes_fault
 returns-in_err-node_fault c =
     some-fault _ _ _ c.loop-i.invariant.1 c.loop-i-test.true c.node_fault.ensures c.in_err-node_fault.was c.from_residual.ensures.1
 
-pub overflow_add-i : goal.overflow_add-i
-unfolding nodes_fault
-overflow_add-i c = omega arith
-
-pub loop-i-smaller : goal.loop-i-smaller
-unfolding nodes_fault
-loop-i-smaller c = omega arith
-
 pub loop-i-preserved : goal.loop-i-preserved
 unfolding nodes_fault
 loop-i-preserved c = (omega arith, search laws, search laws)

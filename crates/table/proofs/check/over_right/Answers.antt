@@ -9,11 +9,11 @@ returns-then-e-eq0 c = search rights
 pub returns-then-first_at : goal.returns-then-first_at
 returns-then-first_at c = search rights
 
-pub overflow_add-greater : goal.overflow_add-greater
-overflow_add-greater c = search (over-fits, rules)
+pub overflow_add-max : goal.overflow_add-max
+overflow_add-max c = search (over-fits, rules)
 
-pub returns-then-d-greater : goal.returns-then-d-greater
-returns-then-d-greater c = search rights
+pub returns-then-d-max : goal.returns-then-d-max
+returns-then-d-max c = search rights
 
 pub returns-then-d-gt-MAX_DEPTH : goal.returns-then-d-gt-MAX_DEPTH
 returns-then-d-gt-MAX_DEPTH c = search rights

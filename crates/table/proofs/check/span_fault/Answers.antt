@@ -5,20 +5,17 @@ use Rattle.table.proofs.check.span_fault.Goals as goal
 
 ruleset laws = (parts, rules)
 
+pub returns-in_default : goal.returns-in_default
+returns-in_default c = search laws
+
 pub returns-then-f-e : goal.returns-then-f-e
 returns-then-f-e c = search laws
 
 pub returns-then-d-eq0 : goal.returns-then-d-eq0
 returns-then-d-eq0 c = search laws
 
-pub overflow_sub-d : goal.overflow_sub-d
-overflow_sub-d c = search laws
-
 pub returns-then-d-g : goal.returns-then-d-g
 returns-then-d-g c = search laws
 
-pub returns-in-None : goal.returns-in-None
-returns-in-None c = search laws
-
-pub returns-else-d-g : goal.returns-else-d-g
-returns-else-d-g c = search laws
+pub returns : goal.returns
+returns c = search laws
