@@ -7,158 +7,165 @@ ghost use Rattle.insns.specs.Opcodes.{bare_op, two_op, slot_op, three_op, shift_
 use crate::Insn;
 use crate::bits::signed_bits;
 use crate::fields::{
-    HALF_16, HALF_24, HALF_32, SIZE_6, SIZE_8, SIZE_12, SIZE_16, SIZE_24, SIZE_32, SIZE_40, make0,
-    make1, make2, make3, make4, make5, raw_bits,
+    HALF_16, HALF_24, HALF_32, SIZE_6, SIZE_8, SIZE_12, SIZE_16, SIZE_24, SIZE_32, SIZE_40, make,
+    raw_bits,
 };
 use crate::op::{Arith, Bare, ById, Call, Cmp, One, Op, Sense, Shift, Slot, Three, Two, Wide};
 
 pub fn two_word(op: u8, dst: u16, src: u16) -> Option<Insn>
     ensures { result ≡ make op (u 16 dst ∷ u 16 src ∷ []) }
 {
-    make2(op, SIZE_16, dst as u64, SIZE_16, src as u64)
+    make(op, &[(SIZE_16, dst as u64), (SIZE_16, src as u64)])
 }
 
 pub(crate) fn slot_word(op: u8, dst: u16, slot: u32) -> Option<Insn>
     ensures { result ≡ make op (u 16 dst ∷ u 32 slot ∷ []) }
 {
-    make2(op, SIZE_16, dst as u64, SIZE_32, slot as u64)
+    make(op, &[(SIZE_16, dst as u64), (SIZE_32, slot as u64)])
 }
 
 pub fn three_word(op: u8, dst: u16, a: u16, b: u16) -> Option<Insn>
     ensures { result ≡ make op (u 16 dst ∷ u 16 a ∷ u 16 b ∷ []) }
 {
-    make3(
-        op, SIZE_16, dst as u64, SIZE_16, a as u64, SIZE_16, b as u64,
+    make(
+        op,
+        &[
+            (SIZE_16, dst as u64),
+            (SIZE_16, a as u64),
+            (SIZE_16, b as u64),
+        ],
     )
 }
 
 pub fn shift_word(op: u8, dst: u16, a: u16, shift: u8) -> Option<Insn>
     ensures { result ≡ make op (u 16 dst ∷ u 16 a ∷ u 6 shift ∷ []) }
 {
-    make3(
+    make(
         op,
-        SIZE_16,
-        dst as u64,
-        SIZE_16,
-        a as u64,
-        SIZE_6,
-        shift as u64,
+        &[
+            (SIZE_16, dst as u64),
+            (SIZE_16, a as u64),
+            (SIZE_6, shift as u64),
+        ],
     )
 }
 
 pub(crate) fn bit_and_mask_word(op: u8, dst: u16, a: u16, lo: u8, len: u8) -> Option<Insn>
     ensures { result ≡ make op (u 16 dst ∷ u 16 a ∷ u 6 lo ∷ u 6 len ∷ []) }
 {
-    make4(
-        op, SIZE_16, dst as u64, SIZE_16, a as u64, SIZE_6, lo as u64, SIZE_6, len as u64,
+    make(
+        op,
+        &[
+            (SIZE_16, dst as u64),
+            (SIZE_16, a as u64),
+            (SIZE_6, lo as u64),
+            (SIZE_6, len as u64),
+        ],
     )
 }
 
 pub(crate) fn rshift_mask_word(op: u8, dst: u16, a: u16, shift: u8, lo: u8, len: u8) -> Option<Insn>
     ensures { result ≡ make op (u 16 dst ∷ u 16 a ∷ u 6 shift ∷ u 6 lo ∷ u 6 len ∷ []) }
 {
-    make5(
+    make(
         op,
-        SIZE_16,
-        dst as u64,
-        SIZE_16,
-        a as u64,
-        SIZE_6,
-        shift as u64,
-        SIZE_6,
-        lo as u64,
-        SIZE_6,
-        len as u64,
+        &[
+            (SIZE_16, dst as u64),
+            (SIZE_16, a as u64),
+            (SIZE_6, shift as u64),
+            (SIZE_6, lo as u64),
+            (SIZE_6, len as u64),
+        ],
     )
 }
 
 pub(crate) fn clos_new_word(op: u8, dst: u16, fun: u32, num: u16) -> Option<Insn>
     ensures { result ≡ make op (u 16 dst ∷ u 24 fun ∷ u 12 num ∷ []) }
 {
-    make3(
-        op, SIZE_16, dst as u64, SIZE_24, fun as u64, SIZE_12, num as u64,
+    make(
+        op,
+        &[
+            (SIZE_16, dst as u64),
+            (SIZE_24, fun as u64),
+            (SIZE_12, num as u64),
+        ],
     )
 }
 
 pub(crate) fn clos_set_word(op: u8, clos: u16, src: u16, idx: u16) -> Option<Insn>
     ensures { result ≡ make op (u 16 clos ∷ u 16 src ∷ u 12 idx ∷ []) }
 {
-    make3(
+    make(
         op,
-        SIZE_16,
-        clos as u64,
-        SIZE_16,
-        src as u64,
-        SIZE_12,
-        idx as u64,
+        &[
+            (SIZE_16, clos as u64),
+            (SIZE_16, src as u64),
+            (SIZE_12, idx as u64),
+        ],
     )
 }
 
 pub(crate) fn clos_get_word(op: u8, dst: u16, idx: u16) -> Option<Insn>
     ensures { result ≡ make op (u 16 dst ∷ u 12 idx ∷ []) }
 {
-    make2(op, SIZE_16, dst as u64, SIZE_12, idx as u64)
+    make(op, &[(SIZE_16, dst as u64), (SIZE_12, idx as u64)])
 }
 
 pub fn one_word(op: u8, dst: u16) -> Option<Insn>
     ensures { result ≡ make op (u 16 dst ∷ []) }
 {
-    make1(op, SIZE_16, dst as u64)
+    make(op, &[(SIZE_16, dst as u64)])
 }
 
 pub(crate) fn wide_word(op: u8, dst: u16, val: u16, class: u32) -> Option<Insn>
     ensures { result ≡ make op (u 16 dst ∷ u 16 val ∷ u 24 class ∷ []) }
 {
-    make3(
+    make(
         op,
-        SIZE_16,
-        dst as u64,
-        SIZE_16,
-        val as u64,
-        SIZE_24,
-        class as u64,
+        &[
+            (SIZE_16, dst as u64),
+            (SIZE_16, val as u64),
+            (SIZE_24, class as u64),
+        ],
     )
 }
 
 pub(crate) fn call_word(op: u8, start: u16, argc: u8, cache: u32) -> Option<Insn>
     ensures { result ≡ make op (u 16 start ∷ u 8 argc ∷ u 24 cache ∷ []) }
 {
-    make3(
+    make(
         op,
-        SIZE_16,
-        start as u64,
-        SIZE_8,
-        argc as u64,
-        SIZE_24,
-        cache as u64,
+        &[
+            (SIZE_16, start as u64),
+            (SIZE_8, argc as u64),
+            (SIZE_24, cache as u64),
+        ],
     )
 }
 
 pub(crate) fn call_host_word(op: u8, host: u16, start: u16, argc: u8) -> Option<Insn>
     ensures { result ≡ make op (u 16 host ∷ u 16 start ∷ u 8 argc ∷ []) }
 {
-    make3(
+    make(
         op,
-        SIZE_16,
-        host as u64,
-        SIZE_16,
-        start as u64,
-        SIZE_8,
-        argc as u64,
+        &[
+            (SIZE_16, host as u64),
+            (SIZE_16, start as u64),
+            (SIZE_8, argc as u64),
+        ],
     )
 }
 
 pub(crate) fn by_id_word(op: u8, fun: u32, start: u16, argc: u8) -> Option<Insn>
     ensures { result ≡ make op (u 24 fun ∷ u 16 start ∷ u 8 argc ∷ []) }
 {
-    make3(
+    make(
         op,
-        SIZE_24,
-        fun as u64,
-        SIZE_16,
-        start as u64,
-        SIZE_8,
-        argc as u64,
+        &[
+            (SIZE_24, fun as u64),
+            (SIZE_16, start as u64),
+            (SIZE_8, argc as u64),
+        ],
     )
 }
 
@@ -171,16 +178,14 @@ pub(crate) fn call_method_host_word(
 ) -> Option<Insn>
     ensures { result ≡ make op (u 16 start ∷ u 8 argc ∷ u 8 tag ∷ u 24 cache ∷ []) }
 {
-    make4(
+    make(
         op,
-        SIZE_16,
-        start as u64,
-        SIZE_8,
-        argc as u64,
-        SIZE_8,
-        tag as u64,
-        SIZE_24,
-        cache as u64,
+        &[
+            (SIZE_16, start as u64),
+            (SIZE_8, argc as u64),
+            (SIZE_8, tag as u64),
+            (SIZE_24, cache as u64),
+        ],
     )
 }
 
@@ -347,13 +352,10 @@ pub fn encode(i: Op) -> Option<Insn>
     ensures { result ≡ made_of i }
 {
     match i {
-        Op::Bare(k) => make0(bare_op(k)),
-        Op::LoadImm40(dst, imm) => make2(
+        Op::Bare(k) => make(bare_op(k), &[]),
+        Op::LoadImm40(dst, imm) => make(
             Insn::LOAD_IMM40,
-            SIZE_16,
-            dst as u64,
-            SIZE_40,
-            raw_bits(imm),
+            &[(SIZE_16, dst as u64), (SIZE_40, raw_bits(imm))],
         ),
         Op::Two(k, dst, src) => two_word(two_op(k), dst, src),
         Op::Slot(k, dst, slot) => slot_word(slot_op(k), dst, slot),
@@ -368,46 +370,46 @@ pub fn encode(i: Op) -> Option<Insn>
             lo,
             len,
         ),
-        Op::Arith(k, dst, a, imm) => make3(
+        Op::Arith(k, dst, a, imm) => make(
             arith_op(k),
-            SIZE_16,
-            dst as u64,
-            SIZE_16,
-            a as u64,
-            SIZE_16,
-            signed_bits(imm.n as i64, HALF_16),
+            &[
+                (SIZE_16, dst as u64),
+                (SIZE_16, a as u64),
+                (SIZE_16, signed_bits(imm.n as i64, HALF_16)),
+            ],
         ),
         Op::ClosNew(dst, fun, num) => clos_new_word(Insn::CLOS_NEW, dst, fun, num),
         Op::ClosSet(clos, src, idx) => clos_set_word(Insn::CLOS_SET, clos, src, idx),
         Op::ClosGet(dst, idx) => clos_get_word(Insn::CLOS_GET, dst, idx),
         Op::One(k, dst) => one_word(one_op(k), dst),
         Op::Wide(k, dst, val, class) => wide_word(wide_op(k), dst, val, class),
-        Op::If(k, val, disp) => make2(
+        Op::If(k, val, disp) => make(
             if_op(k),
-            SIZE_16,
-            val as u64,
-            SIZE_32,
-            signed_bits(disp.by as i64, HALF_32),
+            &[
+                (SIZE_16, val as u64),
+                (SIZE_32, signed_bits(disp.by as i64, HALF_32)),
+            ],
         ),
-        Op::Jump(k, a, b, disp) => make3(
+        Op::Jump(k, a, b, disp) => make(
             jump_op(k),
-            SIZE_16,
-            a as u64,
-            SIZE_16,
-            b as u64,
-            SIZE_24,
-            signed_bits(disp.by as i64, HALF_24),
+            &[
+                (SIZE_16, a as u64),
+                (SIZE_16, b as u64),
+                (SIZE_24, signed_bits(disp.by as i64, HALF_24)),
+            ],
         ),
-        Op::JumpImm(k, a, imm, disp) => make3(
+        Op::JumpImm(k, a, imm, disp) => make(
             jump_imm_op(k),
-            SIZE_16,
-            a as u64,
-            SIZE_16,
-            signed_bits(imm.n as i64, HALF_16),
-            SIZE_24,
-            signed_bits(disp.by as i64, HALF_24),
+            &[
+                (SIZE_16, a as u64),
+                (SIZE_16, signed_bits(imm.n as i64, HALF_16)),
+                (SIZE_24, signed_bits(disp.by as i64, HALF_24)),
+            ],
         ),
-        Op::Jmp(disp) => make1(Insn::JMP, SIZE_32, signed_bits(disp.by as i64, HALF_32)),
+        Op::Jmp(disp) => make(
+            Insn::JMP,
+            &[(SIZE_32, signed_bits(disp.by as i64, HALF_32))],
+        ),
         Op::Call(k, start, argc, cache) => call_word(call_op(k), start, argc, cache),
         Op::CallHost(host, start, argc) => call_host_word(Insn::CALL_HOST, host, start, argc),
         Op::ById(k, fun, start, argc) => by_id_word(by_id_op(k), fun, start, argc),
@@ -418,6 +420,6 @@ pub fn encode(i: Op) -> Option<Insn>
             tag,
             cache,
         ),
-        Op::RetImm40(imm) => make1(Insn::RET_IMM40, SIZE_40, raw_bits(imm)),
+        Op::RetImm40(imm) => make(Insn::RET_IMM40, &[(SIZE_40, raw_bits(imm))]),
     }
 }

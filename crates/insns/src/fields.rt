@@ -1,8 +1,8 @@
 // The fields of a word. A field has a size, 2 to the power of its width, and bits below that size; it is given here as the two numbers.
 // An operand that is silently truncated gives a wrong instruction rather than a failure, so every operand is tested. A signed operand that
 // does not fit is given bits past the field, so that one test serves every kind of field.
-ghost use Rattle.std.specs.Prelude.{◌≡◌, [], ◌∷◌, ◌*◌, ◌≤◌, ◌^◌};
-ghost use Rattle.insns.specs.Fields.{make, raw_bits};
+ghost use Rattle.std.specs.Prelude.{◌≡◌, ◌≤◌, ◌^◌};
+ghost use Rattle.insns.specs.Fields.{sizes, make, raw_bits};
 
 use crate::Insn;
 use crate::bits::{is_raw, signed_bits};
@@ -35,91 +35,21 @@ pub const HALF_32: u64 = SIZE_32 / 2;
 
 pub const HALF_40: u64 = SIZE_40 / 2;
 
-// The word of five fields, each a size and its bits, or Refused.
-pub fn make5(
-    op: u8,
-    m1: u64,
-    a: u64,
-    m2: u64,
-    b: u64,
-    m3: u64,
-    c: u64,
-    m4: u64,
-    d: u64,
-    m5: u64,
-    e: u64,
-) -> Option<Insn>
-    requires { m1 * (m2 * (m3 * (m4 * m5))) ≤ 2 ^ 56 }
-    ensures { result ≡ make op ((m1, a) ∷ (m2, b) ∷ (m3, c) ∷ (m4, d) ∷ (m5, e) ∷ []) }
+// The word of an opcode and its fields, each a size and its bits, if every field holds its bits.
+pub fn make(op: u8, fields: &[(u64, u64)]) -> Option<Insn>
+    requires { sizes fields.now ≤ 2 ^ 56 }
+    ensures { result ≡ make op fields.now }
 {
-    if m1 <= a {
+    if !fields.iter().all(|&(size, bits)| bits < size) {
         return None;
     }
-    if m2 <= b {
-        return None;
+    let mut above = 0;
+    for &(size, bits) in fields.iter().rev() {
+        above = bits + size * above;
     }
-    if m3 <= c {
-        return None;
-    }
-    if m4 <= d {
-        return None;
-    }
-    if m5 <= e {
-        return None;
-    }
-    let low = op as u64;
-    let t4 = d + m4 * e;
-    let t3 = c + m3 * t4;
-    let t2 = b + m2 * t3;
-    let t1 = a + m1 * t2;
     Some(Insn {
-        bits: low + SIZE_OPCODE * t1,
+        bits: op as u64 + SIZE_OPCODE * above,
     })
-}
-
-// The same of fewer fields: a field of size 1 takes no bits.
-pub(crate) fn make4(
-    op: u8,
-    m1: u64,
-    a: u64,
-    m2: u64,
-    b: u64,
-    m3: u64,
-    c: u64,
-    m4: u64,
-    d: u64,
-) -> Option<Insn>
-    requires { m1 * (m2 * (m3 * m4)) ≤ 2 ^ 56 }
-    ensures { result ≡ make op ((m1, a) ∷ (m2, b) ∷ (m3, c) ∷ (m4, d) ∷ []) }
-{
-    make5(op, m1, a, m2, b, m3, c, m4, d, 1, 0)
-}
-
-pub fn make3(op: u8, m1: u64, a: u64, m2: u64, b: u64, m3: u64, c: u64) -> Option<Insn>
-    requires { m1 * (m2 * m3) ≤ 2 ^ 56 }
-    ensures { result ≡ make op ((m1, a) ∷ (m2, b) ∷ (m3, c) ∷ []) }
-{
-    make5(op, m1, a, m2, b, m3, c, 1, 0, 1, 0)
-}
-
-pub fn make2(op: u8, m1: u64, a: u64, m2: u64, b: u64) -> Option<Insn>
-    requires { m1 * m2 ≤ 2 ^ 56 }
-    ensures { result ≡ make op ((m1, a) ∷ (m2, b) ∷ []) }
-{
-    make5(op, m1, a, m2, b, 1, 0, 1, 0, 1, 0)
-}
-
-pub(crate) fn make1(op: u8, m1: u64, a: u64) -> Option<Insn>
-    requires { m1 ≤ 2 ^ 56 }
-    ensures { result ≡ make op ((m1, a) ∷ []) }
-{
-    make5(op, m1, a, 1, 0, 1, 0, 1, 0, 1, 0)
-}
-
-pub fn make0(op: u8) -> Option<Insn>
-    ensures { result ≡ make op [] }
-{
-    make5(op, 1, 0, 1, 0, 1, 0, 1, 0, 1, 0)
 }
 
 // The bits of a 40-bit immediate where they are the raw bits of a value, else a number past the field.

@@ -22,7 +22,7 @@ use crate::encode::{
     clos_new_word, clos_set_word, encode, one_word, rshift_mask_word, shift_word, slot_word,
     three_word, two_word, wide_word,
 };
-use crate::fields::make0;
+use crate::fields::make;
 use crate::op::{Arith, Cmp, Disp, Imm16, Imm40, Op, Sense};
 
 impl Insn {
@@ -184,21 +184,21 @@ impl Insn {
     pub fn panic() -> Option<Insn>
         ensures { result ≡ made_of (Op.Bare Bare.Panic) }
     {
-        make0(Insn::PANIC)
+        make(Insn::PANIC, &[])
     }
 
     // A debugger's breakpoint.
     pub fn breakpoint() -> Option<Insn>
         ensures { result ≡ made_of (Op.Bare Bare.Breakpoint) }
     {
-        make0(Insn::BREAKPOINT)
+        make(Insn::BREAKPOINT, &[])
     }
 
     // Can be used for code patching, or to disable breakpoints.
     pub fn nop() -> Option<Insn>
         ensures { result ≡ made_of (Op.Bare Bare.Nop) }
     {
-        make0(Insn::NOP)
+        make(Insn::NOP, &[])
     }
 
     // Loads a sign-extended immediate as the raw bits of a value: Nil, booleans and Ints of 38 bits, which is what is left once the destination

@@ -26,10 +26,10 @@ pub overflow_cast-disp-in-Jmp : goal.overflow_cast-disp-in-Jmp
 overflow_cast-disp-in-Jmp c = search (widens, rules)
 
 pub returns-in-Bare : goal.returns-in-Bare
-returns-in-Bare c = arm-made c.in-Bare.is (rw c.bare_op.ensures at c.make0.ensures)
+returns-in-Bare c = arm-made c.in-Bare.is (rw c.bare_op.ensures at c.make.ensures)
 
 pub returns-in-LoadImm40 : goal.returns-in-LoadImm40
-returns-in-LoadImm40 c = arm-made c.in-LoadImm40.is (rw c.raw_bits.ensures at c.make2.ensures)
+returns-in-LoadImm40 c = arm-made c.in-LoadImm40.is (rw c.raw_bits.ensures at c.make-in-LoadImm40.ensures)
 
 pub returns-in-Two : goal.returns-in-Two
 returns-in-Two c = arm-made c.in-Two.is (rw c.two_op.ensures at c.two_word.ensures)
@@ -50,7 +50,7 @@ pub returns-in-RshiftMask : goal.returns-in-RshiftMask
 returns-in-RshiftMask c = arm-made c.in-RshiftMask.is c.rshift_mask_word.ensures
 
 pub returns-in-Arith : goal.returns-in-Arith
-returns-in-Arith c = let e : to_z w64 (of_z w64 (to_z w16 (of_z w16 c.in-Arith.imm.n))) ≡ c.in-Arith.imm.n = search (widened, rules) in arm-made c.in-Arith.is (rw (c.arith_op.ensures, c.signed_bits.ensures, e) at c.make3.ensures)
+returns-in-Arith c = let e : to_z w64 (of_z w64 (to_z w16 (of_z w16 c.in-Arith.imm.n))) ≡ c.in-Arith.imm.n = search (widened, rules) in arm-made c.in-Arith.is (rw (c.arith_op.ensures, c.signed_bits.ensures, e) at c.make-in-Arith.ensures)
 
 pub returns-in-ClosNew : goal.returns-in-ClosNew
 returns-in-ClosNew c = arm-made c.in-ClosNew.is c.clos_new_word.ensures
@@ -68,16 +68,16 @@ pub returns-in-Wide : goal.returns-in-Wide
 returns-in-Wide c = arm-made c.in-Wide.is (rw c.wide_op.ensures at c.wide_word.ensures)
 
 pub returns-in-If : goal.returns-in-If
-returns-in-If c = let e : to_z w64 (of_z w64 (to_z w32 (of_z w32 c.in-If.disp.by))) ≡ c.in-If.disp.by = search (widened, rules) in arm-made c.in-If.is (rw (c.if_op.ensures, c.signed_bits-in-If.ensures, e) at c.make2-in-If.ensures)
+returns-in-If c = let e : to_z w64 (of_z w64 (to_z w32 (of_z w32 c.in-If.disp.by))) ≡ c.in-If.disp.by = search (widened, rules) in arm-made c.in-If.is (rw (c.if_op.ensures, c.signed_bits-in-If.ensures, e) at c.make-in-If.ensures)
 
 pub returns-in-Jump : goal.returns-in-Jump
-returns-in-Jump c = let e : to_z w64 (of_z w64 (to_z w32 (of_z w32 c.in-Jump.disp.by))) ≡ c.in-Jump.disp.by = search (widened, rules) in arm-made c.in-Jump.is (rw (c.jump_op.ensures, c.signed_bits-in-Jump.ensures, e) at c.make3-in-Jump.ensures)
+returns-in-Jump c = let e : to_z w64 (of_z w64 (to_z w32 (of_z w32 c.in-Jump.disp.by))) ≡ c.in-Jump.disp.by = search (widened, rules) in arm-made c.in-Jump.is (rw (c.jump_op.ensures, c.signed_bits-in-Jump.ensures, e) at c.make-in-Jump.ensures)
 
 pub returns-in-JumpImm : goal.returns-in-JumpImm
-returns-in-JumpImm c = let e : to_z w64 (of_z w64 (to_z w16 (of_z w16 c.in-JumpImm.imm.n))) ≡ c.in-JumpImm.imm.n = search (widened, rules) in let f : to_z w64 (of_z w64 (to_z w32 (of_z w32 c.in-JumpImm.disp.by))) ≡ c.in-JumpImm.disp.by = search (widened, rules) in arm-made c.in-JumpImm.is (rw (c.jump_imm_op.ensures, c.signed_bits-in-JumpImm.ensures, e, c.signed_bits-in-JumpImm-2.ensures, f) at c.make3-in-JumpImm.ensures)
+returns-in-JumpImm c = let e : to_z w64 (of_z w64 (to_z w16 (of_z w16 c.in-JumpImm.imm.n))) ≡ c.in-JumpImm.imm.n = search (widened, rules) in let f : to_z w64 (of_z w64 (to_z w32 (of_z w32 c.in-JumpImm.disp.by))) ≡ c.in-JumpImm.disp.by = search (widened, rules) in arm-made c.in-JumpImm.is (rw (c.jump_imm_op.ensures, c.signed_bits-in-JumpImm.ensures, e, c.signed_bits-in-JumpImm-2.ensures, f) at c.make-in-JumpImm.ensures)
 
 pub returns-in-Jmp : goal.returns-in-Jmp
-returns-in-Jmp c = let e : to_z w64 (of_z w64 (to_z w32 (of_z w32 c.in-Jmp.disp.by))) ≡ c.in-Jmp.disp.by = search (widened, rules) in arm-made c.in-Jmp.is (rw (c.signed_bits-in-Jmp.ensures, e) at c.make1.ensures)
+returns-in-Jmp c = let e : to_z w64 (of_z w64 (to_z w32 (of_z w32 c.in-Jmp.disp.by))) ≡ c.in-Jmp.disp.by = search (widened, rules) in arm-made c.in-Jmp.is (rw (c.signed_bits-in-Jmp.ensures, e) at c.make-in-Jmp.ensures)
 
 pub returns-in-Call : goal.returns-in-Call
 returns-in-Call c = arm-made c.in-Call.is (rw c.call_op.ensures at c.call_word.ensures)
@@ -92,4 +92,4 @@ pub returns-in-CallMethodHost : goal.returns-in-CallMethodHost
 returns-in-CallMethodHost c = arm-made c.in-CallMethodHost.is c.call_method_host_word.ensures
 
 pub returns-in-RetImm40 : goal.returns-in-RetImm40
-returns-in-RetImm40 c = arm-made c.in-RetImm40.is (rw c.raw_bits-in-RetImm40.ensures at c.make1-in-RetImm40.ensures)
+returns-in-RetImm40 c = arm-made c.in-RetImm40.is (rw c.raw_bits-in-RetImm40.ensures at c.make-in-RetImm40.ensures)
