@@ -9,7 +9,7 @@ ghost use Rattle.emit.specs.Read.{literal_bits};
 use insns::Insn;
 use insns::bits::signed_bits;
 use insns::encode::{arith_op, jump_imm_op, jump_op, one_word, two_word};
-use insns::fields::{make0, make2, make3, raw_bits};
+use insns::fields::{make, raw_bits};
 use insns::op::{Arith, Cmp, Imm16, Imm40};
 
 // The sizes of a register's field, of a literal's and of a raw immediate's.
@@ -22,7 +22,10 @@ const RAW: u64 = 1099511627776;
 pub fn load_imm40(dst: u16, imm: Imm40) -> Option<Insn>
     ensures { result ≡ made_of (Op.LoadImm40 dst imm) }
 {
-    make2(Insn::LOAD_IMM40, REGISTER, dst as u64, RAW, raw_bits(imm))
+    make(
+        Insn::LOAD_IMM40,
+        &[(REGISTER, dst as u64), (RAW, raw_bits(imm))],
+    )
 }
 
 // The bits of a literal in its field.
@@ -35,14 +38,13 @@ fn literal_bits(imm: Imm16) -> u64
 pub fn arith(k: Arith, dst: u16, a: u16, imm: Imm16) -> Option<Insn>
     ensures { result ≡ made_of (Op.Arith k dst a imm) }
 {
-    make3(
+    make(
         arith_op(k),
-        REGISTER,
-        dst as u64,
-        REGISTER,
-        a as u64,
-        LITERAL,
-        literal_bits(imm),
+        &[
+            (REGISTER, dst as u64),
+            (REGISTER, a as u64),
+            (LITERAL, literal_bits(imm)),
+        ],
     )
 }
 
@@ -65,17 +67,14 @@ pub fn jump(k: Cmp, a: u16, b: u16) -> Option<Insn>
 pub fn jump_imm(k: Cmp, a: u16, imm: Imm16) -> Option<Insn>
     ensures { result ≡ made_of (Op.JumpImm k a imm to_patch) }
 {
-    make2(
+    make(
         jump_imm_op(k),
-        REGISTER,
-        a as u64,
-        LITERAL,
-        literal_bits(imm),
+        &[(REGISTER, a as u64), (LITERAL, literal_bits(imm))],
     )
 }
 
 pub fn jmp() -> Option<Insn>
     ensures { result ≡ made_of (Op.Jmp to_patch) }
 {
-    make0(Insn::JMP)
+    make(Insn::JMP, &[])
 }
