@@ -18,7 +18,7 @@ use lib.Seq.{get_or-take, get_or-drop}
 use lib.Signed.{mag}
 use mir.Syntax.{w32, w64}
 use mir.Val.{Fits, SFits, to_z, of_z}
-use Rattle.insns.specs.Fields.{Field, u, s, pack, all_fit, make, word_if}
+use Rattle.insns.specs.Fields.{Field, u, s, pack, all_fit, sizes, make, word_if}
 use Rattle.insns.specs.Bits.{twos}
 use Rattle.insns.specs.Insns.{forms, form_at, form_of, fields_of, made_of}
 use Rattle.insns.specs.Opcodes.{op_of, if_op, jump_op, jump_imm_op}
@@ -28,11 +28,11 @@ use Rattle.insns.specs.declared.op.Imm16.{Imm16}
 use Rattle.insns.specs.declared.op.Form.{Form}
 use Rattle.insns.specs.declared.op.Op.{Op}
 use Rattle.insns.specs.declared.op.Sense.{Sense}
-use Rattle.insns.proofs.Packing.{join-lt}
+use Rattle.insns.proofs.Packing.{join-lt, pack-lt}
 use Rattle.insns.proofs.bits.Sign.{widened, twos-far}
 use Rattle.insns.proofs.Table.{and-true as both_true, form-op}
 use Rattle.decode.specs.Decode.{signed, decode_of, decode_as, whole}
-use Rattle.decode.proofs.RoundTrip.{head-fits, made-fits, made-decode}
+use Rattle.decode.proofs.RoundTrip.{made-fits, made-decode}
 use Rattle.decode.specs.Patch.{difference, is_branch, made_with, aimed_made, aimed_decoded, aim_word}
 use Rattle.decode.specs.Aim.{reach_of, unreached, aimed_by, unaimed, Place, aim_field, branch_by}
 use Rattle.decode.specs.declared.patch.Branch.{Branch}
@@ -72,11 +72,6 @@ pub ruleset numbers = (none, in_field, past-field)
 
 -- ---- a field above others
 
--- how many numbers the fields hold
-abbrev sizes : List Field → ℕ
-sizes [] = 1
-sizes (f ∷ fs) = f.0 * sizes fs
-
 pack-end : (fs : List Field) (m v : ℕ) → pack (fs ++ ((m, v) ∷ [])) ≡ pack fs + sizes fs * v
 pack-end [] m v = omega arith
 pack-end (f ∷ fs) m v = rw (pack-end fs m v, mul-add, mul_assoc, add_assoc)
@@ -84,10 +79,6 @@ pack-end (f ∷ fs) m v = rw (pack-end fs m v, mul-add, mul_assoc, add_assoc)
 fit-end : (fs : List Field) (m v : ℕ) → all_fit (fs ++ ((m, v) ∷ [])) ≡ (all_fit fs && ltb v m)
 fit-end [] m v = and-true (ltb v m)
 fit-end (f ∷ fs) m v = ap (λ (b : Bool). ltb f.1 f.0 && b) (fit-end fs m v) ∙ sym (and_assoc (ltb f.1 f.0) (all_fit fs) (ltb v m))
-
-pack-lt : (fs : List Field) → all_fit fs ≡ true → pack fs < sizes fs
-pack-lt [] e = omega arith
-pack-lt ((m, v) ∷ fs) e = let h = head-fits m v fs e in join-lt m (sizes fs) h.0 (pack-lt fs h.1)
 
 -- ---- a branch: its opcode, the fields below its displacement, and half of the numbers that the displacement's field holds
 
