@@ -22,7 +22,6 @@ use Rattle.float.specs.declared.Op.TheVariants as FO
 use Rattle.insns.specs.declared.op.Bare.{Bare}
 use Rattle.insns.specs.declared.op.Two.{Two}
 use Rattle.insns.specs.declared.op.Slot.{Slot}
-use Rattle.insns.specs.declared.op.Three.{Three}
 use Rattle.insns.specs.declared.op.Shift.{Shift}
 use Rattle.insns.specs.declared.op.Arith.{Arith}
 use Rattle.insns.specs.declared.op.Op.{Op}

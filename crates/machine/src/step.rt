@@ -7,9 +7,9 @@ ghost use Rattle.machine.specs.Step as St;
 ghost use Rattle.machine.specs.Step.{after, lent};
 ghost use Rattle.machine.specs.Parts.{told_of};
 
-use faults::Fault;
 use decode::decode;
 use effect::{Effect, effect_of, room};
+use faults::Fault;
 use insns::bits::magnitude;
 use insns::op::Disp;
 use value::{Value, kind_of, payload_of};
@@ -22,10 +22,7 @@ fn land(len: usize, at: usize, z: Disp) -> Result<usize, Fault>
     let n = z.by as i64;
     let m = magnitude(n) as usize;
     if n < 0 {
-        if m <= at {
-            return Ok(at - m);
-        }
-        return Err(Fault::OutOfRange);
+        return at.checked_sub(m).ok_or(Fault::OutOfRange);
     }
     if m <= len - (at + 1) {
         return Ok(at + 1 + m);
@@ -38,21 +35,13 @@ fn branch(len: usize, at: usize, z: Disp, a: Result<Value, Fault>) -> Result<usi
     requires { at < len }
     ensures { result ≡ told_of (St.branch_of len at z.by (result_of a)) }
 {
-    match a {
-        Ok(v) => match v {
-            Value::Bool(b) => {
-                if b {
-                    return land(len, at, z);
-                }
-                Ok(at + 1)
-            }
-            Value::Nil => Err(Fault::WrongKind),
-            Value::Int(_) => Err(Fault::WrongKind),
-            Value::Float(_) => Err(Fault::WrongKind),
-            Value::Nan(_) => Err(Fault::WrongKind),
-        },
-        Err(n) => Err(n),
+    let Value::Bool(taken) = a? else {
+        return Err(Fault::WrongKind);
+    };
+    if taken {
+        return land(len, at, z);
     }
+    Ok(at + 1)
 }
 
 // An answer goes into a register. 26 for the register comes before the operation's fault, and a fault writes nothing.
@@ -71,18 +60,20 @@ fn put(
     if room(kinds, payloads) <= d {
         return Err(Fault::OutOfRange);
     }
-    match a {
-        Ok(v) => {
-            kinds[d] = kind_of(v);
-            payloads[d] = payload_of(v);
-            Ok(at + 1)
-        }
-        Err(f) => Err(f),
-    }
+    let v = a?;
+    kinds[d] = kind_of(v);
+    payloads[d] = payload_of(v);
+    Ok(at + 1)
 }
 
 // An effect carried out.
-fn settle(len: usize, at: usize, e: Effect, kinds: &mut [u8], payloads: &mut [u64]) -> Result<usize, Fault>
+fn settle(
+    len: usize,
+    at: usize,
+    e: Effect,
+    kinds: &mut [u8],
+    payloads: &mut [u64],
+) -> Result<usize, Fault>
     requires { at < len }
     ensures { after result kinds.new payloads.new
         ≡ lent kinds.old payloads.old (St.settle_of len (size kinds.old payloads.old) at (asked e)) }
@@ -96,6 +87,7 @@ fn settle(len: usize, at: usize, e: Effect, kinds: &mut [u8], payloads: &mut [u6
 }
 
 // What the word asks for: 10 if it does not decode.
+#[tactic(auto, unfolding(crate::specs::Step::word_effect))]
 fn word_effect(
     w: u64,
     kinds: &[u8],
@@ -113,6 +105,7 @@ fn word_effect(
 }
 
 // The step at a position of the code. Nothing is written before the word is decoded, its operands read and its faults known.
+#[tactic(auto, unfolding(crate::specs::Step::step_of))]
 pub fn step(
     words: &[u64],
     at: usize,
