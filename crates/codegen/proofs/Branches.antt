@@ -99,11 +99,11 @@ module _ {ws c k p : List ℕ} {i : ℕ} {st : St} (ready : Ready ws (bufs c k p
         by or v = absurd (let e = binary-code (kind_at ws i) or v.kind in let g = pair.1 in omega numbers)
 
     module _ {l : ℕ} (left : ChildIs ws i (child2 ws i) l) {c1 k1 p1 : List ℕ} {x : Result (ℕ × St) Fault} (one : Says (bufs c1 k1 p1) x (value_at ws l None room start)) where
-      pub pair-stop : (js : List ℕ) {n : Fault} → x ≡ Err n → Lists (bufs c1 k1 p1) js (Err n) (branch_at ws i sense room start)
+      pub pair-stop : (js : List ℕ) {f : Fault} {r : Result (ℕ × St) Fault} → x ≡ Err f → r ≡ Err f → Lists (bufs c1 k1 p1) js r (branch_at ws i sense room start)
       unfolding pair_b
-      pair-stop js e =
+      pair-stop js e g =
           let w = pair_of in
-          lists-by w.1.is (stop-lists js (λ q. bind (value_at ws (child1 ws i) None room q.1) (pair_to (branch_of w.0 sense) q.0 room st.next)) e (left_is room start left one))
+          lists-by w.1.is (stop-lists js (λ q. bind (value_at ws (child1 ws i) None room q.1) (pair_to (branch_of w.0 sense) q.0 room st.next)) e g (left_is room start left one))
 
       pub pair-branch : {a : ℕ} {s : St} → x ≡ Ok (a, s) → {r room' room'' : ℕ} → ChildIs ws i (child1 ws i) r → room' ≡ room →
           {c2 k2 p2 : List ℕ} {y : Result (ℕ × St) Fault} → Says (bufs c2 k2 p2) y (value_at ws r None room' (st_of (bufs c1 k1 p1) s)) → room'' ≡ room →
@@ -150,9 +150,9 @@ module _ {ws c k p : List ℕ} {i : ℕ} {st : St} (ready : Ready ws (bufs c k p
       abbrev second : List ℕ × State → Res (List ℕ × State)
       second q = bind (branch_at ws (child1 ws i) sense (room - length q.0) q.1) (junction_to (same by sense) q.0)
 
-      pub junction-stop : {n : Fault} → x ≡ Err n → Lists (bufs c1 k1 p1) l x (branch_at ws i sense room start)
+      pub junction-stop : {f : Fault} {r : Result (ℕ × St) Fault} → x ≡ Err f → r ≡ Err f → Lists (bufs c1 k1 p1) l r (branch_at ws i sense room start)
       unfolding junction_b
-      junction-stop e = lists-by junction-is (stop-jumps second e first-is)
+      junction-stop e q = lists-by junction-is (stop-jumps second e q first-is)
 
       pub junction-branch : {n : ℕ} {s : St} → x ≡ Ok (n, s) → {b room' : ℕ} → ChildIs ws i (child1 ws i) b → room' ≡ room - length (take n l) →
           {c2 k2 p2 m : List ℕ} {y : Result (ℕ × St) Fault} → Lists (bufs c2 k2 p2) m y (branch_at ws b sense room' (st_of (bufs c1 k1 p1) s)) →

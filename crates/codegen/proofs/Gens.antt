@@ -7,9 +7,7 @@ use Prim.Native.Nat.{ℕ}
 use native.Mathlib.Omega.{arith as numbers}
 use Rattle.table.specs.Tree.{minus, not', Arith, Cmp, Binary, arith, cmp, and, or, Tree, leaf, unary, binary, ternary}
 use Rattle.fold.specs.declared.Tail.{Tail}
-use Rattle.fold.specs.declared.Tail.TheVariants as Tail
 use Rattle.fold.specs.declared.How.{How}
-use Rattle.fold.specs.declared.How.TheVariants as How
 use Rattle.emit.specs.State.{State}
 use Rattle.fold.specs.Fold.{fold_of, one, two, compare_pick}
 use Rattle.fold.specs.Nodes.{op_fold, left_of, operand_of, pick_of}

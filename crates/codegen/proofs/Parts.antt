@@ -21,8 +21,8 @@ use Rattle.emit.proofs.Laws.{go, says-by}
 
 module _ {b : Bufs} {x : Result (ℕ × St) Fault} {m : Res (ℕ × State)} where
   -- a value's refusal is handed on
-  pub stop-lists : (js : List ℕ) (k : ℕ × State → Res (List ℕ × State)) {n : Fault} → x ≡ Err n → Says b x m → Lists b js (Err n) (bind m k)
-  stop-lists js k e h = record { is = rw (← h.is, e); fit = tt }
+  pub stop-lists : (js : List ℕ) (k : ℕ × State → Res (List ℕ × State)) {f : Fault} {r : Result (ℕ × St) Fault} → x ≡ Err f → r ≡ Err f → Says b x m → Lists b js r (bind m k)
+  stop-lists js k e q h = record { is = rw (← h.is, e, q); fit = rw q tt }
 
   -- the next leaf takes the answer as it is
   pub chain-lists : (k : ℕ × State → Res (List ℕ × State)) {b' : Bufs} {js : List ℕ} {r : Result (ℕ × St) Fault} → Says b x m → (FitAns b x → Lists b' js r (bind (read b x) k)) → Lists b' js r (bind m k)
@@ -32,11 +32,11 @@ module _ {b : Bufs} {js : List ℕ} {x : Result (ℕ × St) Fault} {m : Res (Lis
   pub go-jumps : {B : Type 0} (k : List ℕ × State → Res B) {n : ℕ} {s : St} → x ≡ Ok (n, s) → Lists b js x m → k (take n js, st_of b s) ≡ bind m k
   go-jumps k e h = rw (← h.is, e)
 
-  pub stop-says : (k : List ℕ × State → Res (ℕ × State)) {n : Fault} → x ≡ Err n → Lists b js x m → Says b (Err n) (bind m k)
-  stop-says k e h = record { is = rw (← h.is, e); fit = tt }
+  pub stop-says : (k : List ℕ × State → Res (ℕ × State)) {f : Fault} {r : Result (ℕ × St) Fault} → x ≡ Err f → r ≡ Err f → Lists b js x m → Says b r (bind m k)
+  stop-says k e q h = record { is = rw (← h.is, e, q); fit = rw q tt }
 
-  pub stop-jumps : (k : List ℕ × State → Res (List ℕ × State)) {n : Fault} → x ≡ Err n → Lists b js x m → Lists b js x (bind m k)
-  stop-jumps k e h = record { is = rw (← h.is, e); fit = h.fit }
+  pub stop-jumps : (k : List ℕ × State → Res (List ℕ × State)) {f : Fault} {r : Result (ℕ × St) Fault} → x ≡ Err f → r ≡ Err f → Lists b js x m → Lists b js r (bind m k)
+  stop-jumps k e q h = record { is = rw (← h.is, e, q); fit = rw q tt }
 
   pub kept-jumps : {n : ℕ} {s : St} → x ≡ Ok (n, s) → Lists b js x m → Fit b s
   kept-jumps e h = (subst (FitJumps b js) e h.fit).0
@@ -50,7 +50,7 @@ module _ {b : Bufs} {js : List ℕ} {x : Result (ℕ × St) Fault} {m : Res (Lis
 -- the words of what was said are in the buffer
 pub counted : {c k p : List ℕ} {m : Res (ℕ × State)} (x : Result (ℕ × St) Fault) → Says (bufs c k p) x m → Counted c x
 counted (Ok (r, st)) h = h.fit.words
-counted (Err n) h = tt
+counted (Err f) h = tt
 
 -- ---- the list's front, of which a call is lent the rest
 

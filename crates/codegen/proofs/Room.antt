@@ -15,9 +15,7 @@ use Rattle.table.specs.Tree.{minus, not', Cmp, arith, cmp, and, or, Tree, leaf, 
 use Rattle.insns.specs.declared.op.Three.{Three}
 use Rattle.insns.specs.declared.op.Cmp.{Cmp as JumpCmp}
 use Rattle.fold.specs.declared.Tail.{Tail}
-use Rattle.fold.specs.declared.Tail.TheVariants as Tail
 use Rattle.fold.specs.declared.How.{How}
-use Rattle.fold.specs.declared.How.TheVariants as How
 use Rattle.emit.specs.State.{Res, done, fail, bind, State, here, dest_d, store_d}
 use Rattle.emit.specs.Jump.{patch_d, patches_d, leap_d}
 use Rattle.fold.specs.Literal.{as_imm16}

@@ -78,11 +78,11 @@ module _ {ws c k p : List ℕ} {i : ℕ} {st : St} (ready : Ready ws (bufs c k p
         by or v = absurd (let e = binary-code (kind_at ws i) or v.kind in let g = general.1 in omega numbers)
 
     module _ {l : ℕ} (left : ChildIs ws i (child2 ws i) l) {c1 k1 p1 : List ℕ} {x : Result (ℕ × St) Fault} (one : Says (bufs c1 k1 p1) x (value_at ws l None room start)) where
-      pub two-stop : {n : Fault} → x ≡ Err n → Says (bufs c1 k1 p1) x (value_at ws i dst room start)
+      pub two-stop : {f : Fault} {r : Result (ℕ × St) Fault} → x ≡ Err f → r ≡ Err f → Says (bufs c1 k1 p1) r (value_at ws i dst room start)
       unfolding two_v
-      two-stop e =
+      two-stop e g =
           let w = two-of in
-          says-by w.1.is (stop (λ q. bind (value_at ws (child1 ws i) None room q.1) (three_to (three_of w.0) q.0 dst st.next)) e (left_is room start left one))
+          says-by w.1.is (stop (λ q. bind (value_at ws (child1 ws i) None room q.1) (three_to (three_of w.0) q.0 dst st.next)) e g (left_is room start left one))
 
       pub two-value : {a : ℕ} {s : St} → x ≡ Ok (a, s) → {r room' : ℕ} → ChildIs ws i (child1 ws i) r → room' ≡ room →
           {c2 k2 p2 : List ℕ} {y : Result (ℕ × St) Fault} → Says (bufs c2 k2 p2) y (value_at ws r None room' (st_of (bufs c1 k1 p1) s)) →
@@ -114,17 +114,17 @@ module _ {ws c k p : List ℕ} {i : ℕ} {st : St} (ready : Ready ws (bufs c k p
         by or v = at-tree v.is refl
 
     module _ {x : Result (ℕ × St) Fault} (to : (c : List ℕ) → Steps c c st x (dest_d dst)) where
-      pub cond-stop : {n : Fault} → x ≡ Err n → Says (bufs c k p) x (value_at ws i dst room start)
+      pub cond-stop : {f : Fault} {r : Result (ℕ × St) Fault} → x ≡ Err f → r ≡ Err f → Says (bufs c k p) r (value_at ws i dst room start)
       unfolding cond_v
-      cond-stop e = says-by cond-is (stop (λ d. bind (branch_at ws i true room d.1) (λ js. bool_d js.0 d.0 js.1)) e (to c k p ready.fit))
+      cond-stop e q = says-by cond-is (stop (λ d. bind (branch_at ws i true room d.1) (λ js. bool_d js.0 d.0 js.1)) e q (to c k p ready.fit))
 
       module _ {d : ℕ} {s : St} (got : x ≡ Ok (d, s)) {c1 k1 p1 js : List ℕ} {y : Result (ℕ × St) Fault} (test : Lists (bufs c1 k1 p1) js y (branch_at ws i true room (st_of (bufs c k p) s))) where
         cond-from : bind (branch_at ws i true room (st_of (bufs c k p) s)) (λ js. bool_d js.0 d js.1) ≡ value_at ws i dst room start
         unfolding cond_v
         cond-from = go (λ d. bind (branch_at ws i true room d.1) (λ js. bool_d js.0 d.0 js.1)) got (to c k p ready.fit) ∙ cond-is
 
-        pub cond-refused : {n : Fault} → y ≡ Err n → Says (bufs c1 k1 p1) (Err n) (value_at ws i dst room start)
-        cond-refused e = says-by cond-from (stop-says (λ js. bool_d js.0 d js.1) e test)
+        pub cond-refused : {f : Fault} {r : Result (ℕ × St) Fault} → y ≡ Err f → r ≡ Err f → Says (bufs c1 k1 p1) r (value_at ws i dst room start)
+        cond-refused e q = says-by cond-from (stop-says (λ js. bool_d js.0 d js.1) e q test)
 
         pub cond_value : {n : ℕ} {t : St} → y ≡ Ok (n, t) → {c2 : List ℕ} {r : Result (ℕ × St) Fault} → Steps c1 c2 t r (bool_d (take n js) d) → Says (bufs c2 k1 p1) r (value_at ws i dst room start)
         cond_value e g = says-by (go-jumps (λ js. bool_d js.0 d js.1) e test ∙ cond-from) (g k1 p1 (kept-jumps e test))
@@ -139,9 +139,9 @@ module _ {ws c k p : List ℕ} {i : ℕ} {st : St} (ready : Ready ws (bufs c k p
     arms d = arms_d (value_at ws (child2 ws i)) (value_at ws (child1 ws i)) d room
 
     module _ {x : Result (ℕ × St) Fault} (to : (c : List ℕ) → Steps c c st x (dest_d dst)) where
-      pub ternary-stop : {n : Fault} → x ≡ Err n → Says (bufs c k p) x (value_at ws i dst room start)
+      pub ternary-stop : {f : Fault} {r : Result (ℕ × St) Fault} → x ≡ Err f → r ≡ Err f → Says (bufs c k p) r (value_at ws i dst room start)
       unfolding ternary_v
-      ternary-stop e = says-by ternary-is (stop (λ d. bind (branch_at ws (child3 ws i) false room d.1) (arms d.0)) e (to c k p ready.fit))
+      ternary-stop e q = says-by ternary-is (stop (λ d. bind (branch_at ws (child3 ws i) false room d.1) (arms d.0)) e q (to c k p ready.fit))
 
       module _ {d : ℕ} {s : St} (got : x ≡ Ok (d, s)) {j : ℕ} (child : ChildIs ws i (child3 ws i) j)
           {c1 k1 p1 js : List ℕ} {y : Result (ℕ × St) Fault} (test : Lists (bufs c1 k1 p1) js y (branch_at ws j false room (st_of (bufs c k p) s))) where
@@ -152,8 +152,8 @@ module _ {ws c k p : List ℕ} {i : ℕ} {st : St} (ready : Ready ws (bufs c k p
             ∙ go (λ d. bind (branch_at ws (child3 ws i) false room d.1) (arms d.0)) got (to c k p ready.fit)
             ∙ ternary-is
 
-        pub ternary-refused : {n : Fault} → y ≡ Err n → Says (bufs c1 k1 p1) (Err n) (value_at ws i dst room start)
-        ternary-refused e = says-by ternary-from (stop-says (arms d) e test)
+        pub ternary-refused : {f : Fault} {r : Result (ℕ × St) Fault} → y ≡ Err f → r ≡ Err f → Says (bufs c1 k1 p1) r (value_at ws i dst room start)
+        ternary-refused e q = says-by ternary-from (stop-says (arms d) e q test)
 
         pub ternary-value : {n : ℕ} {t : St} → y ≡ Ok (n, t) → {b : Bufs} {r : Result (ℕ × St) Fault} {room' : ℕ} → room' ≡ room →
             Says b r (arms_d (value_at ws (child2 ws i)) (value_at ws (child1 ws i)) d room' (take n js, st_of (bufs c1 k1 p1) t)) → Says b r (value_at ws i dst room start)
@@ -187,9 +187,9 @@ module _ {ws : List ℕ} {i : ℕ} (d room : ℕ) (js : List ℕ) (start : State
       (ap (λ (q : ℕ). into_d (value_at ws q) d room1 start) yes.is ∙ ap (λ (q : ℕ). into_d (value_at ws (child2 ws i)) d q start) rest)
       one
 
-  pub arms-stop : {n : Fault} → x ≡ Err n → Says (bufs c1 k1 p1) x all
+  pub arms-stop : {f : Fault} {r : Result (ℕ × St) Fault} → x ≡ Err f → r ≡ Err f → Says (bufs c1 k1 p1) r all
   unfolding arms_d
-  arms-stop e = stop turned e then_is
+  arms-stop e q = stop turned e q then_is
 
   module _ {e : ℕ} {s : St} (got : x ≡ Ok (e, s)) {js' c2 : List ℕ} {y : Result (ℕ × St) Fault} (front : js' ≡ js) (turn : Steps c1 c2 s y (turn_d js' d)) where
     turn_is : Says (bufs c2 k1 p1) y (turn_d js d (st_of (bufs c1 k1 p1) s))
@@ -199,8 +199,8 @@ module _ {ws : List ℕ} {i : ℕ} (d room : ℕ) (js : List ℕ) (start : State
     unfolding arms_d
     from-turn = go turned got then_is
 
-    pub arms-turned : {n : Fault} → y ≡ Err n → Says (bufs c2 k1 p1) y all
-    arms-turned n = says-by from-turn (stop (last (here (st_of (bufs c1 k1 p1) s))) n turn_is)
+    pub arms-turned : {f : Fault} {r : Result (ℕ × St) Fault} → y ≡ Err f → r ≡ Err f → Says (bufs c2 k1 p1) r all
+    arms-turned n q = says-by from-turn (stop (last (here (st_of (bufs c1 k1 p1) s))) n q turn_is)
 
     pub arms-value : {e' : ℕ} {t : St} → y ≡ Ok (e', t) → {b room2 : ℕ} → ChildIs ws i (child1 ws i) b → room2 ≡ room →
         {c3 k3 p3 : List ℕ} {z : Result (ℕ × St) Fault} → Says (bufs c3 k3 p3) z (into_d (value_at ws b) d room2 (st_of (bufs c2 k1 p1) t)) →

@@ -6,9 +6,7 @@ use Rattle.table.specs.Tree.{Leaf, Unary, minus, not', Cmp, Binary, arith, cmp, 
 use Rattle.insns.specs.declared.op.Three.{Three}
 use Rattle.insns.specs.declared.op.Cmp.{Cmp as JumpCmp}
 use Rattle.fold.specs.declared.Tail.{Tail}
-use Rattle.fold.specs.declared.Tail.TheVariants as Tail
 use Rattle.fold.specs.declared.How.{How}
-use Rattle.fold.specs.declared.How.TheVariants as How
 use Rattle.fold.specs.Literal.{as_imm16}
 use Rattle.fold.specs.Fold.{fold_of, minus_one, takes_shift, Picked, one, two, compare_pick}
 use Rattle.fold.specs.Opcodes.{three_of, branch_of}

@@ -7,11 +7,11 @@ ghost use Rattle.codegen.specs.Gen.{into_d};
 ghost use Rattle.codegen.specs.Rules.{value_at, branch_at, arms_at, Ready, GivesValue, GivesJumps};
 ghost use Rattle.codegen.specs.Rules.{IsOperator, IsGeneral, IsCondition, IsTernary, IsNot, IsTest, IsPair, IsJunction};
 
-use faults::Fault;
 use emit::jump::{gen_bool, join, jump_one, jump_pair, settle, turn};
 use emit::leaf::gen_value;
 use emit::state::{St, dest};
 use emit::word::{put_mov, put_tail, put_three};
+use faults::Fault;
 use fold::opcodes::{cmp_branch, is_junction, three_of};
 use fold::{fold_of, operand_of, test_of};
 
@@ -57,7 +57,7 @@ fn gen_operand(
     st: St,
 ) -> Result<(u16, St), Fault>
     requires { Ready nodes.now (bufs code.old kinds.old payloads.old) i st }
-    ensures { GivesValue nodes code kinds payloads jumps st result (value_at nodes.now i Dst.Any) }
+    ensures { GivesValue nodes code kinds payloads jumps st result (value_at nodes.now i None) }
 {
     gen_code_inner(nodes, code, kinds, payloads, jumps, i, None, st)
 }
@@ -78,8 +78,7 @@ fn gen_operator(
     requires { (Ready nodes.now (bufs code.old kinds.old payloads.old) i st) × (IsOperator nodes.now i) }
     ensures { GivesValue nodes code kinds payloads jumps st result (value_at nodes.now i dst) }
 {
-    let f = fold_of(nodes, i);
-    let Some(tail) = f else {
+    let Some(tail) = fold_of(nodes, i) else {
         return gen_two(nodes, code, kinds, payloads, jumps, i, dst, st);
     };
     let j = operand_of(nodes, i, tail);
@@ -102,7 +101,7 @@ fn gen_two(
     requires { (Ready nodes.now (bufs code.old kinds.old payloads.old) i st) × (IsGeneral nodes.now i) }
     ensures { GivesValue nodes code kinds payloads jumps st result (value_at nodes.now i dst) }
 {
-    let x = gen_operand(
+    let (a, s) = gen_operand(
         nodes,
         code,
         kinds,
@@ -110,11 +109,8 @@ fn gen_two(
         jumps,
         table::child_2(nodes, i),
         st,
-    );
-    let Ok((a, s)) = x else {
-        return x;
-    };
-    let y = gen_operand(
+    )?;
+    let x = gen_operand(
         nodes,
         code,
         kinds,
@@ -123,7 +119,7 @@ fn gen_two(
         table::child_1(nodes, i),
         s,
     );
-    put_three(code, three_of(table::kind_at(nodes, i)), a, dst, st.next, y)
+    put_three(code, three_of(table::kind_at(nodes, i)), a, dst, st.next, x)
 }
 
 // Materializes a condition as a boolean value: its register, its branch if true, then the two loads. The register is taken first, so that it is below
@@ -142,15 +138,9 @@ fn gen_cond_value(
     requires { (Ready nodes.now (bufs code.old kinds.old payloads.old) i st) × (IsCondition nodes.now i) }
     ensures { GivesValue nodes code kinds payloads jumps st result (value_at nodes.now i dst) }
 {
-    let x = dest(dst, st);
-    let Ok((d, s)) = x else {
-        return x;
-    };
-    let y = gen_jumps(nodes, code, kinds, payloads, jumps, i, true, s);
-    match y {
-        Ok((n, t)) => gen_bool(code, &jumps[..n], d, t),
-        Err(f) => Err(f),
-    }
+    let (d, s) = dest(dst, st)?;
+    let (n, t) = gen_jumps(nodes, code, kinds, payloads, jumps, i, true, s)?;
+    gen_bool(code, &jumps[..n], d, t)
 }
 
 // A ternary. Both arms have to land in the same register, so it is taken first.
@@ -168,11 +158,8 @@ fn gen_ternary(
     requires { (Ready nodes.now (bufs code.old kinds.old payloads.old) i st) × (IsTernary nodes.now i) }
     ensures { GivesValue nodes code kinds payloads jumps st result (value_at nodes.now i dst) }
 {
-    let x = dest(dst, st);
-    let Ok((d, s)) = x else {
-        return x;
-    };
-    let y = gen_jumps(
+    let (d, s) = dest(dst, st)?;
+    let (n, t) = gen_jumps(
         nodes,
         code,
         kinds,
@@ -181,11 +168,8 @@ fn gen_ternary(
         table::child_3(nodes, i),
         false,
         s,
-    );
-    match y {
-        Ok((n, t)) => gen_arms(nodes, code, kinds, payloads, jumps, i, d, n, t),
-        Err(f) => Err(f),
-    }
+    )?;
+    gen_arms(nodes, code, kinds, payloads, jumps, i, d, n, t)
 }
 
 // The arms of the ternary at node i, whose test has n jumps pending at the front of the list: the later part of the list goes to the then side. The else
@@ -205,7 +189,7 @@ fn gen_arms(
     requires { (Ready nodes.now (bufs code.old kinds.old payloads.old) i st) × (IsTernary nodes.now i) × (n ≤ length jumps.old) }
     ensures { GivesValue nodes code kinds payloads jumps st result (arms_at nodes.now i d (take n jumps.old)) }
 {
-    let x = gen_into(
+    let (_, s) = gen_into(
         nodes,
         code,
         kinds,
@@ -214,16 +198,9 @@ fn gen_arms(
         table::child_2(nodes, i),
         d,
         st,
-    );
-    let Ok((_, s)) = x else {
-        return x;
-    };
-    let p = s.count;
-    let y = turn(code, &jumps[..n], d, s);
-    let Ok((_, t)) = y else {
-        return y;
-    };
-    let z = gen_into(
+    )?;
+    let (_, t) = turn(code, &jumps[..n], d, s)?;
+    let x = gen_into(
         nodes,
         code,
         kinds,
@@ -233,7 +210,7 @@ fn gen_arms(
         d,
         t,
     );
-    settle(code, p, d, z)
+    settle(code, s.count, d, x)
 }
 
 // Generates the value of node i into the register d: a mov follows where the value already sat in another one.
@@ -353,8 +330,7 @@ fn gen_test(
     requires { (Ready nodes.now (bufs code.old kinds.old payloads.old) i st) × (IsTest nodes.now i) }
     ensures { GivesJumps nodes code kinds payloads jumps st result (branch_at nodes.now i sense) }
 {
-    let t = test_of(nodes, i, sense);
-    let Some((j, how)) = t else {
+    let Some((j, how)) = test_of(nodes, i, sense) else {
         return gen_pair(nodes, code, kinds, payloads, jumps, i, sense, st);
     };
     let x = gen_operand(nodes, code, kinds, payloads, jumps, j, st);
@@ -376,7 +352,7 @@ fn gen_pair(
     requires { (Ready nodes.now (bufs code.old kinds.old payloads.old) i st) × (IsPair nodes.now i sense) }
     ensures { GivesJumps nodes code kinds payloads jumps st result (branch_at nodes.now i sense) }
 {
-    let x = gen_operand(
+    let (a, s) = gen_operand(
         nodes,
         code,
         kinds,
@@ -384,29 +360,24 @@ fn gen_pair(
         jumps,
         table::child_2(nodes, i),
         st,
+    )?;
+    let x = gen_operand(
+        nodes,
+        code,
+        kinds,
+        payloads,
+        jumps,
+        table::child_1(nodes, i),
+        s,
     );
-    match x {
-        Ok((a, s)) => {
-            let y = gen_operand(
-                nodes,
-                code,
-                kinds,
-                payloads,
-                jumps,
-                table::child_1(nodes, i),
-                s,
-            );
-            jump_pair(
-                code,
-                jumps,
-                cmp_branch(table::kind_at(nodes, i), sense),
-                a,
-                st.next,
-                y,
-            )
-        }
-        Err(f) => Err(f),
-    }
+    jump_pair(
+        code,
+        jumps,
+        cmp_branch(table::kind_at(nodes, i), sense),
+        a,
+        st.next,
+        x,
+    )
 }
 
 // Short-circuiting operators branch directly, with no boolean in between: And, which a false left side decides, and Or, which a true one does (`by`). One of
@@ -426,7 +397,7 @@ fn gen_junction(
     requires { (Ready nodes.now (bufs code.old kinds.old payloads.old) i st) × (IsJunction nodes.now i by) }
     ensures { GivesJumps nodes code kinds payloads jumps st result (branch_at nodes.now i sense) }
 {
-    let x = gen_jumps(
+    let (n, s) = gen_jumps(
         nodes,
         code,
         kinds,
@@ -435,11 +406,8 @@ fn gen_junction(
         table::child_2(nodes, i),
         by,
         st,
-    );
-    let Ok((n, s)) = x else {
-        return x;
-    };
-    let y = gen_jumps(
+    )?;
+    let x = gen_jumps(
         nodes,
         code,
         kinds,
@@ -449,5 +417,5 @@ fn gen_junction(
         sense,
         s,
     );
-    join(code, jumps, sense == by, n, y)
+    join(code, jumps, sense == by, n, x)
 }
