@@ -25,7 +25,7 @@ use Rattle.fold.specs.declared.Tail.{Tail}
 use Rattle.fold.specs.Literal.{bit_run, const_of, imm_of, amount_of, amount_lit}
 use Rattle.fold.specs.Fold.{shift_by, shifted_by, mask_fold, shift_fold, imm_fold, fold_by, fold_lit, minus_one, takes_shift}
 use Rattle.fold.specs.Nodes.{Operator, Operand, op_fold, left_of, operand_of}
-use Rattle.fold.proofs.literal.Literals.{held}
+use Rattle.fold.proofs.literal.Literals.{held, const-small}
 use Rattle.fold.proofs.Folding.{Folding, general, mask, shift-mask, shift-left, shift-right, plus, minus as less, times, folding}
 use Rattle.fold.proofs.opcodes.KindLaws.{arith-known}
 
@@ -102,8 +102,8 @@ module _ {ws : List ℕ} {i : ℕ} (h : Inner ws i 0) {k : ℕ} (e : k ≡ kind_
     pub shift_none : l ≡ None → None ≡ shifted_by (tree ws i)
     shift_none n = sym (ap amount_lit n) ∙ shift_from
 
-    pub shift-lit : {z : ℤ} {r : Option ℕ} → l ≡ Some z → mag z < 9223372036854775808 → r ≡ amount_of (to_z w64 (of_z w64 z)) → r ≡ shifted_by (tree ws i)
-    shift-lit {z} n f q = q ∙ ap amount_of (held z f) ∙ sym (ap amount_lit n) ∙ shift_from
+    pub shift-lit : {z : ℤ} {r : Option ℕ} → l ≡ Some z → r ≡ amount_of (to_z w64 (of_z w64 z)) → r ≡ shifted_by (tree ws i)
+    shift-lit {z} n q = q ∙ ap amount_of (held z (const-small (tree ws j) (sym c ∙ n))) ∙ sym (ap amount_lit n) ∙ shift_from
 
 pub ruleset shifts = (shift-other, shift_none, shift-lit)
 
@@ -226,9 +226,10 @@ module _ {ws : List ℕ} {i : ℕ} (h : Operator ws i) where
       pub fold-none : l ≡ None → None ≡ op_fold (tree ws i)
       fold-none n = let v = fold-from in sym (v.2 ∙ ap (fold_lit v.0 _) n)
 
-      pub fold-lit : {z : ℤ} {a : ℕ} {r : Option Tail} → l ≡ Some z → mag z < 9223372036854775808 → ChildIs ws i (child2 ws i) a
+      pub fold-lit : {z : ℤ} {a : ℕ} {r : Option Tail} → l ≡ Some z → ChildIs ws i (child2 ws i) a
           → ((o : Arith) → kind_of k ≡ binary_kind (arith o) → r ≡ fold_by o (shifted_by (tree ws a)) (to_z w64 (of_z w64 z))) → r ≡ op_fold (tree ws i)
-      fold-lit {z} {a} {r} n f b q =
+      fold-lit {z} {a} {r} n b q =
+          let f = const-small (tree ws j) (sym c ∙ n) in
           let v = fold-from in
           let p = b.is in
           let u : r ≡ fold_by v.0 (shifted_by (tree ws a)) (to_z w64 (of_z w64 z)) = q v.0 (ap kind_of e ∙ v.1) in

@@ -1,5 +1,5 @@
 // Which instruction an operator or a test becomes: what it takes in of its operands (here), literals by their size (`literal`) and the opcode of an
-// operator (`opcodes`). An attempt to fold answers an enum; where no immediate fits, the caller emits the general form.
+// operator (`opcodes`). Where no immediate fits, an attempt to fold answers None, and the caller emits the general form.
 #![tactic(auto)]
 
 pub mod literal;
@@ -40,10 +40,7 @@ fn shifted_by(nodes: &[u64], i: usize) -> Option<u8>
     if table::kind_at(nodes, i) != table::RSHIFT {
         return None;
     }
-    let l = crate::literal::const_value(nodes, table::child_1(nodes, i));
-    let Some(z) = l else {
-        return None;
-    };
+    let z = crate::literal::const_value(nodes, table::child_1(nodes, i))?;
     crate::literal::amount_of(z)
 }
 
@@ -51,9 +48,7 @@ fn shifted_by(nodes: &[u64], i: usize) -> Option<u8>
 fn mask_fold(shift: Option<u8>, run: Option<(u8, u8)>) -> Option<Tail>
     ensures { result ≡ mask_fold shift run }
 {
-    let Some((lo, len)) = run else {
-        return None;
-    };
+    let (lo, len) = run?;
     let Some(k) = shift else {
         return Some(Tail::Mask(lo, len));
     };
@@ -64,20 +59,14 @@ fn mask_fold(shift: Option<u8>, run: Option<(u8, u8)>) -> Option<Tail>
 fn shift_fold(op: Shift, by: Option<u8>) -> Option<Tail>
     ensures { result ≡ shift_fold op by }
 {
-    let Some(k) = by else {
-        return None;
-    };
-    Some(Tail::Shift(op, k))
+    Some(Tail::Shift(op, by?))
 }
 
 // So does a constant integer that fits an immediate operand.
 fn imm_fold(op: Arith, imm: Option<Imm16>) -> Option<Tail>
     ensures { result ≡ imm_fold op imm }
 {
-    let Some(n) = imm else {
-        return None;
-    };
-    Some(Tail::Imm(op, n))
+    Some(Tail::Imm(op, imm?))
 }
 
 // What the binary operator of kind k takes in of the fixnum z on its right, where its left operand is the node a.
@@ -109,10 +98,7 @@ pub fn fold_of(nodes: &[u64], i: usize) -> Option<Tail>
     if k == table::NOT {
         return Some(Tail::Not);
     }
-    let l = crate::literal::const_value(nodes, table::child_1(nodes, i));
-    let Some(z) = l else {
-        return None;
-    };
+    let z = crate::literal::const_value(nodes, table::child_1(nodes, i))?;
     literal_fold(nodes, table::child_2(nodes, i), k, z)
 }
 
@@ -136,13 +122,7 @@ pub fn operand_of(nodes: &[u64], i: usize, tail: Tail) -> usize
 fn takes_shift(tail: Tail) -> bool
     ensures { result ≡ takes_shift tail }
 {
-    match tail {
-        Tail::ShiftMask(_, _, _) => true,
-        Tail::Not => false,
-        Tail::Imm(_, _) => false,
-        Tail::Shift(_, _) => false,
-        Tail::Mask(_, _) => false,
-    }
+    matches!(tail, Tail::ShiftMask(_, _, _))
 }
 
 // The comparison at node i. An integer literal small enough to encode goes in the instruction rather than a register. A literal on the left is mirrored
@@ -155,15 +135,11 @@ fn compare_of(nodes: &[u64], i: usize, k: u64, sense: bool) -> Option<(usize, Ho
 {
     let b = table::child_1(nodes, i);
     let a = table::child_2(nodes, i);
-    let right = crate::literal::as_imm16(nodes, b);
-    let Some(n) = right else {
-        let left = crate::literal::as_imm16(nodes, a);
-        let Some(m) = left else {
-            return None;
-        };
-        return Some((b, How::Imm(crate::opcodes::mirrored_branch(k, sense), m)));
-    };
-    Some((a, How::Imm(crate::opcodes::cmp_branch(k, sense), n)))
+    if let Some(n) = crate::literal::as_imm16(nodes, b) {
+        return Some((a, How::Imm(crate::opcodes::cmp_branch(k, sense), n)));
+    }
+    let m = crate::literal::as_imm16(nodes, a)?;
+    Some((b, How::Imm(crate::opcodes::mirrored_branch(k, sense), m)))
 }
 
 // What a branch on node i takes in: a literal of a comparison; any other node is tested whole.

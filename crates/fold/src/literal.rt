@@ -88,12 +88,9 @@ pub(crate) fn const_value(nodes: &[u64], i: usize) -> Option<i64>
     requires { Inner nodes.now i 0 }
     ensures { result ≡ const_of (tree nodes.now i) }
 {
-    let l = lit_of(nodes, i);
-    let Some(z) = l else {
-        return l;
-    };
+    let z = lit_of(nodes, i)?;
     if within(z, FIXNUM) {
-        return l;
+        return Some(z);
     }
     None
 }
@@ -113,11 +110,7 @@ pub(crate) fn as_imm16(nodes: &[u64], i: usize) -> Option<Imm16>
     requires { Inner nodes.now i 0 }
     ensures { result ≡ as_imm16 (tree nodes.now i) }
 {
-    let l = lit_of(nodes, i);
-    let Some(z) = l else {
-        return None;
-    };
-    imm_of(z)
+    imm_of(lit_of(nodes, i)?)
 }
 
 // z as a shift's amount. Anything below the word size is accepted, which is what lets the instruction itself skip checking the amount.

@@ -19,7 +19,7 @@ use Rattle.table.specs.Tree.{int, Tree, leaf, Kind, leaf_kind, unary_kind, binar
 use Rattle.table.proofs.Arities.{at-kind}
 use Rattle.table.proofs.Trees.{View, is_leaf, is-unary, is-binary, is-ternary, view, leaf-at}
 use Rattle.insns.proofs.bits.Sign.{back}
-use Rattle.fold.specs.Literal.{bits, run_at, run_from, bit_run, lit_of, const_of, imm_of, as_imm16, amount_of}
+use Rattle.fold.specs.Literal.{is_fixnum, fixnum, bits, run_at, run_from, bit_run, lit_of, const_of, imm_of, as_imm16, amount_of}
 
 never : {X : Type 0} → true ≡ false → X
 never e = absurd (let z : ◌≡◌ {A = ℕ} 0 1 = cc in omega arith)
@@ -199,6 +199,18 @@ module _ {ws : List ℕ} {i : ℕ} (h : Inner ws i 0) {k : ℕ} (e : k ≡ kind_
       go n (is-unary o v) = rw v.is
       go n (is-binary o v) = rw v.is
       go n (is-ternary v) = rw v.is
+
+-- a constant is a fixnum, so 64 bits hold it
+pub const-small : (t : Tree) {z : ℤ} → const_of t ≡ Some z → mag z < 9223372036854775808
+const-small t {z} = go (lit_of t)
+  where
+    sized : (y : ℤ) (b : Bool) → is_fixnum y ≡ b → cond {A = Option ℤ} b (Some y) None ≡ Some z → mag z < 9223372036854775808
+    sized y true q e = let s = ltb-true (mag y) 2305843009213693952 q in let p : y ≡ z = cc in rw (← p) (omega arith)
+    sized y false q e = absurd (cc)
+
+    go : (l : Option ℤ) → fixnum l ≡ Some z → mag z < 9223372036854775808
+    go (Some y) e = sized y (is_fixnum y) refl e
+    go None e = absurd (cc)
 
 -- what is made of it
 module _ {l : Option ℤ} (t : Tree) (e : l ≡ lit_of t) where
