@@ -1,7 +1,7 @@
 -- What an operator answers, by document 01, "Values": a value, or the number of a fault.
 use Rattle.value.specs.declared.Value.{Value}
 use Rattle.faults.specs.declared.Fault.{Fault}
-use Rattle.std.specs.Prelude.{ℕ, Bool, true, false, Result, Ok, Err}
+use Rattle.std.specs.Prelude.{Bool, true, false, Result, Ok, Err}
 use Rattle.value.specs.Value.{Datum, nil, bool, int, float, meaning}
 
 pub data Answer : Type 0 where

@@ -1,5 +1,5 @@
--- Plumbing: how the code sees the operands of an operator: as numbers by their patterns, anything else as Nil. What the operators mean does not use it.
-use Rattle.std.specs.Prelude.{Bool, true, false}
+-- Plumbing: how the code sees the operands of an operator: as numbers by their patterns, anything else as None. What the operators mean does not use it.
+use Rattle.std.specs.Prelude.{Option, Some, None}
 use Rattle.std.specs.Int.{w64}
 use Rattle.std.proofs.Common.{to_z}
 use Rattle.value.specs.Value.{Datum, nil, bool, int, float}
@@ -12,13 +12,10 @@ as_number (bool b) = nil
 as_number (int n) = int n
 as_number (float p) = float p
 
-unfoldable pub shown : Number → Datum
-shown (N.Int p) = int (to_z w64 p)
-shown (N.Float p) = float p
-shown N.Other = nil
+abbrev pub number : Number → Datum
+number (N.Int p) = int (to_z w64 p)
+number (N.Float p) = float p
 
--- whether it is a number
-abbrev pub counts : Number → Bool
-counts (N.Int p) = true
-counts (N.Float p) = true
-counts N.Other = false
+unfoldable pub shown : Option Number → Datum
+shown (Some a) = number a
+shown None = nil

@@ -7,6 +7,15 @@ pub mod pairs;
 ghost use Rattle.std.specs.Prelude.{◌≡◌};
 ghost use Rattle.value.specs.Value as Vs;
 
+// The kinds of a lent pair.
+pub const NIL: u8 = 0;
+
+pub const BOOL: u8 = 1;
+
+pub const INT: u8 = 2;
+
+pub const FLOAT: u8 = 3;
+
 // The logic has one NaN and no payload for it, so a NaN is kept as its pattern: a move must not lose its bits.
 #[derive(Clone, Copy)]
 pub enum Value {
@@ -28,28 +37,17 @@ pub fn of_pattern(p: u64) -> Value
 }
 
 // The value that a pair is lent for.
+#[tactic(auto, unfolding(crate::specs::Value::of_pair))]
 pub fn from_pair(kind: u8, payload: u64) -> Option<Value>
     ensures { Vs.read_of result ≡ Vs.of_pair kind payload }
 {
-    if kind == 0 {
-        if payload == 0 {
-            return Some(Value::Nil);
-        }
-        return None;
+    match kind {
+        NIL if payload == 0 => Some(Value::Nil),
+        BOOL if payload < 2 => Some(Value::Bool(payload == 1)),
+        INT => Some(Value::Int(int64::sign::signed(payload))),
+        FLOAT => Some(of_pattern(payload)),
+        _ => None,
     }
-    if kind == 1 {
-        if payload < 2 {
-            return Some(Value::Bool(payload == 1));
-        }
-        return None;
-    }
-    if kind == 2 {
-        return Some(Value::Int(int64::sign::signed(payload)));
-    }
-    if kind == 3 {
-        return Some(of_pattern(payload));
-    }
-    None
 }
 
 // The pair that a value is lent as.
@@ -57,11 +55,10 @@ pub fn kind_of(v: Value) -> u8
     ensures { result ≡ Vs.kind_of (Vs.meaning v) }
 {
     match v {
-        Value::Nil => 0,
-        Value::Bool(_) => 1,
-        Value::Int(_) => 2,
-        Value::Float(_) => 3,
-        Value::Nan(_) => 3,
+        Value::Nil => NIL,
+        Value::Bool(_) => BOOL,
+        Value::Int(_) => INT,
+        Value::Float(_) | Value::Nan(_) => FLOAT,
     }
 }
 
@@ -70,7 +67,7 @@ pub fn payload_of(v: Value) -> u64
 {
     match v {
         Value::Nil => 0,
-        Value::Bool(b) => if b { 1 } else { 0 },
+        Value::Bool(b) => b as u64,
         Value::Int(n) => int64::sign::pattern(n),
         Value::Float(x) => float::bits::pattern(x),
         Value::Nan(p) => p,

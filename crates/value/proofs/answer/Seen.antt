@@ -4,22 +4,7 @@ use mathlib.Core.Bool.{true}
 use Rattle.int64.proofs.sign.Laws.{never}
 use Rattle.value.specs.Value.{Datum, nil, bool, int, float}
 use Rattle.value.specs.Answer.{is_number}
-use Rattle.value.specs.Seen.{shown, as_number, counts}
-use Rattle.value.specs.declared.answer.Number.{Number}
-use Rattle.value.specs.declared.answer.Number.TheVariants as N
-
-pub counted : (a : Number) → counts a ≡ is_number (shown a)
-unfolding is_number shown
-counted (N.Int p) = refl
-counted (N.Float p) = refl
-counted N.Other = refl
-
-pub as-number : (x : Datum) → is_number (as_number x) ≡ is_number x
-unfolding is_number as_number
-as-number nil = refl
-as-number (bool b) = refl
-as-number (int n) = refl
-as-number (float p) = refl
+use Rattle.value.specs.Seen.{as_number}
 
 pub number_is : (x : Datum) → is_number x ≡ true → as_number x ≡ x
 unfolding is_number as_number

@@ -1,6 +1,5 @@
 -- `value::of_pattern` meets its contract: by the test for a NaN.
 use mathlib.Core.Path.{sym, ap, ◌∙◌}
-use borrow.Author.Rules.{rules}
 use lib.Ieee.{Float, binary64, to_bits}
 use Rattle.float.proofs.bits.Read.{bits_back}
 use Rattle.value.specs.Value.{float}

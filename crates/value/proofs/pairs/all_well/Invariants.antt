@@ -1,16 +1,7 @@
--- `all_well` meets its contract. The loop's invariant: what is left decides as the whole does. The measure is what is left of the kinds.
-use mathlib.Core.Path.{◌≡◌, refl, sym, ap, ◌∙◌}
-use mathlib.Core.Bool.{Bool, true, false, ◌&&◌}
-use Prim.Native.Nat.{◌≤◌, ◌-◌, ◌+◌}
-use native.Mathlib.Omega.{arith}
-use borrow.Author.Rules.{rules}
-use borrow.Author.Tests.{not-true, not-false}
-use lib.ListN.{length}
-use Rattle.value.proofs.PairLaws.{from, from_next, no-kinds, no-payloads}
+-- The loop of `all_well`: what is left of the pairs decides as the whole does.
+use Rattle.std.proofs.Common.{◌≡◌, length}
+use Rattle.value.proofs.PairLaws.{from}
 use Rattle.value.proofs.pairs.all_well.Given as goal
 
-abbrev pub invariant-loop-i : goal.invariant-loop-i
-invariant-loop-i l = (l.i ≤ length l.kinds) × (from l.kinds l.payloads l.i ≡ from l.kinds l.payloads 0)
-
-abbrev pub decreases-loop-i : goal.decreases-loop-i
-decreases-loop-i l = length l.kinds - l.i
+abbrev pub invariant-loop-kind : goal.invariant-loop-kind
+invariant-loop-kind l = from l.kinds l.payloads (length l.yielded) ≡ from l.kinds l.payloads 0
