@@ -4,7 +4,7 @@ use Rattle.faults.specs.Numbers.{wrong_kind}
 use Rattle.float.specs.Order.{order}
 use Rattle.float.specs.Bits.{read}
 use Rattle.float.specs.Standing.{standing}
-use Rattle.int64.specs.Order.{Order, order_z, holds}
+use Rattle.int64.specs.Order.{order_z, holds}
 use Rattle.int64.specs.declared.order.Cmp.{Cmp}
 use Rattle.int64.specs.declared.order.Cmp.TheVariants.{Eq, Ne, Lt, Le, Gt, Ge}
 use Rattle.value.specs.Value.{Datum, nil, bool, int, float, kind_of, payload_of}

@@ -1,22 +1,17 @@
 // The arithmetic and bit operators on values, each with its faults in the order 20, 23, then 22 or 24, then 21.
 ghost use Rattle.std.specs.Prelude.{◌≡◌};
-ghost use Rattle.value.specs.Value.{meaning, float};
-ghost use Rattle.value.specs.Answer.{result_of, is};
-ghost use Rattle.value.specs.Seen.{shown};
+ghost use Rattle.std.specs.Int.{w64};
+ghost use Rattle.std.proofs.Common.{to_z};
+ghost use Rattle.int64.specs.Int as I;
+ghost use Rattle.value.specs.Value.{meaning};
+ghost use Rattle.value.specs.Answer.{result_of};
+ghost use Rattle.value.specs.Seen.{number};
 ghost use Rattle.ops.specs.Arith as Ops;
-ghost use Rattle.ops.specs.Code.{operate_of, ints_of};
-ghost use Rattle.int64.specs.Int.{outcome_of};
+ghost use Rattle.ops.specs.Code.{operate_of};
 
 use faults::Fault;
-use value::answer::{Number, both_numbers, number_of};
+use value::answer::{Number, number_of};
 use value::{Value, of_pattern};
-
-// Two Ints by their patterns, or not two Ints.
-#[derive(Clone, Copy)]
-pub enum Ints {
-    Are(u64, u64),
-    Not,
-}
 
 // How an operator goes about it: Add, Sub, Mul on two Ints, or else on Floats; Div on Floats; Mod, the bit operators and the shifts on Ints alone.
 #[derive(Clone, Copy)]
@@ -26,89 +21,55 @@ pub enum How {
     Ints(int64::Op),
 }
 
-fn int_answer(n: Result<u64, Fault>) -> Result<Value, Fault>
-    ensures { result_of result ≡ Ops.from_int (outcome_of n) }
+#[tactic(auto, unfolding(crate::specs::Arith::from_int))]
+fn ints(op: int64::Op, p: u64, q: u64) -> Result<Value, Fault>
+    ensures { result_of result ≡ Ops.from_int (I.operate op (to_z w64 p) (to_z w64 q)) }
 {
-    match n {
-        Ok(p) => Ok(Value::Int(int64::sign::signed(p))),
-        Err(f) => Err(f),
-    }
-}
-
-fn float_answer(p: u64) -> Result<Value, Fault>
-    ensures { result_of result ≡ is (float p) }
-{
-    Ok(of_pattern(p))
+    let r = int64::operate(op, p, q)?;
+    Ok(Value::Int(int64::sign::signed(r)))
 }
 
 // The conversion rule of arithmetic: the float that a number is.
+#[tactic(auto, unfolding(crate::specs::Arith::converted))]
 fn float_of(a: Number) -> Option<u64>
-    ensures { result ≡ Ops.converted (shown a) }
+    ensures { result ≡ Ops.converted (number a) }
 {
     match a {
         Number::Int(p) => float::from_int(p),
         Number::Float(p) => Some(p),
-        Number::Other => None,
     }
 }
 
-// Two floats, of which one or both may not exist.
-fn floats(op: float::Op, x: Option<u64>, y: Option<u64>) -> Result<Value, Fault>
-    ensures { result_of result ≡ Ops.floats op x y }
+#[tactic(auto, unfolding(crate::specs::Arith::floats))]
+fn floats(op: float::Op, a: Number, b: Number) -> Result<Value, Fault>
+    ensures { result_of result
+        ≡ Ops.floats op (Ops.converted (number a)) (Ops.converted (number b)) }
 {
-    match x {
-        Some(p) => match y {
-            Some(q) => float_answer(float::operate(op, p, q)),
-            None => Err(Fault::NotExact),
-        },
-        None => Err(Fault::NotExact),
-    }
-}
-
-// Kinds are looked at before anything is converted: 20 comes before 23.
-fn as_floats(op: float::Op, a: Number, b: Number) -> Result<Value, Fault>
-    ensures { result_of result ≡ Ops.as_floats op (shown a) (shown b) }
-{
-    if both_numbers(a, b) {
-        return floats(op, float_of(a), float_of(b));
-    }
-    Err(Fault::WrongKind)
-}
-
-fn ints_of(a: Number, b: Number) -> Ints
-    ensures { result ≡ ints_of a b }
-{
-    match a {
-        Number::Int(p) => match b {
-            Number::Int(q) => Ints::Are(p, q),
-            Number::Float(_) => Ints::Not,
-            Number::Other => Ints::Not,
-        },
-        Number::Float(_) => Ints::Not,
-        Number::Other => Ints::Not,
-    }
+    let p = float_of(a).ok_or(Fault::NotExact)?;
+    let q = float_of(b).ok_or(Fault::NotExact)?;
+    Ok(of_pattern(float::operate(op, p, q)))
 }
 
 fn operate_numbers(how: How, a: Number, b: Number) -> Result<Value, Fault>
-    ensures { result_of result ≡ operate_of how (shown a) (shown b) }
+    ensures { result_of result ≡ operate_of how (number a) (number b) }
 {
-    let w = ints_of(a, b);
-    match how {
-        How::Either(i, f) => match w {
-            Ints::Are(p, q) => int_answer(int64::operate(i, p, q)),
-            Ints::Not => as_floats(f, a, b),
+    match (a, b) {
+        (Number::Int(p), Number::Int(q)) => match how {
+            How::Either(op, _) | How::Ints(op) => ints(op, p, q),
+            How::Floats(op) => floats(op, a, b),
         },
-        How::Floats(f) => as_floats(f, a, b),
-        How::Ints(i) => match w {
-            Ints::Are(p, q) => int_answer(int64::operate(i, p, q)),
-            Ints::Not => Err(Fault::WrongKind),
+        _ => match how {
+            How::Either(_, op) | How::Floats(op) => floats(op, a, b),
+            How::Ints(_) => Err(Fault::WrongKind),
         },
     }
 }
 
-// Every arithmetic and bit operator.
+// Every arithmetic and bit operator. Kinds are looked at before anything is converted: 20 comes before 23.
 pub fn operate(how: How, a: Value, b: Value) -> Result<Value, Fault>
     ensures { result_of result ≡ operate_of how (meaning a) (meaning b) }
 {
-    operate_numbers(how, number_of(a), number_of(b))
+    let x = number_of(a).ok_or(Fault::WrongKind)?;
+    let y = number_of(b).ok_or(Fault::WrongKind)?;
+    operate_numbers(how, x, y)
 }

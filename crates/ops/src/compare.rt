@@ -1,15 +1,14 @@
 // The comparisons of values. Their one fault is 20.
-ghost use Rattle.std.specs.Prelude.{◌≡◌, ◌&&◌, eqb};
-ghost use Rattle.std.specs.Int.{w64};
-ghost use Rattle.std.proofs.Common.{to_z};
+ghost use Rattle.std.specs.Prelude.{◌≡◌};
 ghost use Rattle.value.specs.Value.{meaning};
-ghost use Rattle.value.specs.Answer.{result_of};
-ghost use Rattle.value.specs.Seen.{shown};
+ghost use Rattle.value.specs.Answer.{result_of, truth};
+ghost use Rattle.value.specs.Seen.{number};
 ghost use Rattle.ops.specs.Compare as Ops;
 
 use faults::Fault;
+use float::standing::stands;
 use int64::order::Cmp;
-use value::answer::{Number, bool_answer, both_numbers, number_of};
+use value::answer::{Number, number_of};
 use value::{Value, kind_of, payload_of};
 
 // The comparison with its operands exchanged.
@@ -17,8 +16,7 @@ fn mirror(op: Cmp) -> Cmp
     ensures { result ≡ Ops.mirror op }
 {
     match op {
-        Cmp::Eq => Cmp::Eq,
-        Cmp::Ne => Cmp::Ne,
+        Cmp::Eq | Cmp::Ne => op,
         Cmp::Lt => Cmp::Gt,
         Cmp::Le => Cmp::Ge,
         Cmp::Gt => Cmp::Lt,
@@ -26,60 +24,43 @@ fn mirror(op: Cmp) -> Cmp
     }
 }
 
-// The Int of pattern p with the Float of pattern q, as the numbers that they are.
-fn mixed(op: Cmp, p: u64, q: u64) -> Result<Value, Fault>
-    ensures { result_of result ≡ Ops.mixed op (to_z w64 p) q }
+#[tactic(auto, unfolding(crate::specs::Compare::compare_numbers, crate::specs::Compare::mixed))]
+fn compare_numbers(op: Cmp, a: Number, b: Number) -> bool
+    ensures { truth result ≡ Ops.compare_numbers op (number a) (number b) }
 {
-    bool_answer(float::standing::stands(op, p, q))
-}
-
-fn compare_numbers(op: Cmp, a: Number, b: Number) -> Result<Value, Fault>
-    ensures { result_of result ≡ Ops.compare_numbers op (shown a) (shown b) }
-{
-    match a {
-        Number::Int(p) => match b {
-            Number::Int(q) => bool_answer(int64::order::compare(op, p, q)),
-            Number::Float(q) => mixed(op, p, q),
-            Number::Other => Err(Fault::WrongKind),
-        },
-        Number::Float(p) => match b {
-            Number::Int(q) => mixed(mirror(op), q, p),
-            Number::Float(q) => bool_answer(float::order::compare(op, p, q)),
-            Number::Other => Err(Fault::WrongKind),
-        },
-        Number::Other => Err(Fault::WrongKind),
+    match (a, b) {
+        (Number::Int(p), Number::Int(q)) => int64::order::compare(op, p, q),
+        (Number::Int(p), Number::Float(q)) => stands(op, p, q),
+        (Number::Float(p), Number::Int(q)) => stands(mirror(op), q, p),
+        (Number::Float(p), Number::Float(q)) => float::order::compare(op, p, q),
     }
 }
 
-// Whether two pairs lend one value.
-fn same_pair(k: u8, p: u64, l: u8, q: u64) -> bool
-    ensures { result ≡ (eqb k l && eqb p q) }
-{
-    (k == l) & (p == q)
-}
-
 // Two values of which one is no number: they are equal or not, and have no order.
+#[tactic(auto, unfolding(crate::specs::Compare::compare_others))]
 fn compare_others(op: Cmp, equal: bool) -> Result<Value, Fault>
     ensures { result_of result ≡ Ops.compare_others op equal }
 {
     match op {
-        Cmp::Eq => bool_answer(equal),
-        Cmp::Ne => bool_answer(!equal),
-        Cmp::Lt => Err(Fault::WrongKind),
-        Cmp::Le => Err(Fault::WrongKind),
-        Cmp::Gt => Err(Fault::WrongKind),
-        Cmp::Ge => Err(Fault::WrongKind),
+        Cmp::Eq => Ok(Value::Bool(equal)),
+        Cmp::Ne => Ok(Value::Bool(!equal)),
+        Cmp::Lt | Cmp::Le | Cmp::Gt | Cmp::Ge => Err(Fault::WrongKind),
     }
+}
+
+// Whether two values lend one pair.
+#[tactic(auto, unfolding(crate::specs::Compare::same))]
+fn same(a: Value, b: Value) -> bool
+    ensures { result ≡ Ops.same (meaning a) (meaning b) }
+{
+    kind_of(a) == kind_of(b) && payload_of(a) == payload_of(b)
 }
 
 pub fn compare(op: Cmp, a: Value, b: Value) -> Result<Value, Fault>
     ensures { result_of result ≡ Ops.compare_of op (meaning a) (meaning b) }
 {
-    let x = number_of(a);
-    let y = number_of(b);
-    if both_numbers(x, y) {
-        return compare_numbers(op, x, y);
+    match (number_of(a), number_of(b)) {
+        (Some(x), Some(y)) => Ok(Value::Bool(compare_numbers(op, x, y))),
+        _ => compare_others(op, same(a, b)),
     }
-    let s = same_pair(kind_of(a), payload_of(a), kind_of(b), payload_of(b));
-    compare_others(op, s)
 }

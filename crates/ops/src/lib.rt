@@ -11,9 +11,9 @@ ghost use Rattle.value.specs.Value.{meaning};
 ghost use Rattle.ops.specs.Ops as Ops;
 ghost use Rattle.value.specs.Answer.{result_of};
 
-use faults::Fault;
 use crate::arith::{How, operate};
 use crate::compare::compare;
+use faults::Fault;
 use int64::order::Cmp;
 use value::Value;
 
@@ -21,8 +21,11 @@ use value::Value;
 pub fn minus(v: Value) -> Result<Value, Fault>
     ensures { result_of result ≡ Ops.minus_of (meaning v) }
 {
-    let minus_one = Value::Int(-1);
-    operate(How::Either(int64::Op::Mul, float::Op::Mul), v, minus_one)
+    operate(
+        How::Either(int64::Op::Mul, float::Op::Mul),
+        v,
+        Value::Int(-1),
+    )
 }
 
 // The binary operator of a node kind. a > b is b < a, and a >= b is b <= a: neither can then fail to agree with Lt and Le, also for a NaN.

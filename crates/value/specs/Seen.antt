@@ -16,6 +16,6 @@ abbrev pub number : Number → Datum
 number (N.Int p) = int (to_z w64 p)
 number (N.Float p) = float p
 
-unfoldable pub shown : Option Number → Datum
+abbrev pub shown : Option Number → Datum
 shown (Some a) = number a
 shown None = nil

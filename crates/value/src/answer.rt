@@ -12,7 +12,7 @@ pub enum Number {
     Float(u64),
 }
 
-#[tactic(auto, unfolding(crate::specs::Seen::as_number, crate::specs::Seen::shown))]
+#[tactic(auto, unfolding(crate::specs::Seen::as_number))]
 pub fn number_of(v: Value) -> Option<Number>
     ensures { shown result ≡ as_number (meaning v) }
 {

@@ -1,102 +1,71 @@
 -- What each operator answers, as the code finds it.
-use Rattle.std.specs.Prelude.{Option, Some, None}
-use mathlib.Core.Path.{◌≡◌, refl, sym, ap, ap₂, ◌∙◌}
-use mathlib.Core.Bool.{Bool, true, false, ◌&&◌}
-use Prim.Native.Nat.{ℕ}
-use native.Mathlib.Omega.{arith}
-use mir.Syntax.{w64}
-use mir.Val.{to_z}
-use Rattle.faults.specs.Numbers.{wrong_kind, not_exact}
-use Rattle.float.specs.Float as F
-use Rattle.float.specs.Bits.{read}
-use Rattle.int64.specs.Int as I
-use Rattle.int64.specs.Int.{Outcome}
-use Rattle.int64.specs.declared.Op as IntOp
+use Rattle.std.proofs.Common.{◌≡◌, ℕ, w64, to_z, refl, ap, ap₂, ◌∙◌}
+use mathlib.Core.Logic.{◌⊎◌, inl, inr}
+use Rattle.faults.specs.Numbers.{wrong_kind}
 use Rattle.float.specs.declared.Op as FloatOp
-use Rattle.float.specs.declared.Op.TheVariants as FO
+use Rattle.int64.specs.declared.Op as IntOp
+use Rattle.int64.specs.Int as I
 use Rattle.value.specs.Value.{Datum, nil, bool, int, float}
-use Rattle.value.specs.Answer.{Answer, is, fault, is_number}
-use Rattle.value.specs.Seen.{shown, as_number, counts}
+use Rattle.value.specs.Answer.{Answer, fault, is_number}
+use Rattle.value.specs.Seen.{as_number, number}
 use Rattle.value.specs.declared.answer.Number.{Number}
 use Rattle.value.specs.declared.answer.Number.TheVariants as N
-use Rattle.value.proofs.answer.Seen.{counted}
 use Rattle.ops.specs.Arith.{of_numbers, from_int, converted, floats, as_floats, arith_of, whole_of}
-use Rattle.ops.specs.Code.{operate_of, ints_of}
+use Rattle.ops.specs.Code.{operate_of}
 use Rattle.ops.specs.declared.arith.How.{How}
 use Rattle.ops.specs.declared.arith.How.TheVariants as H
-use Rattle.ops.specs.declared.arith.Ints.{Ints}
-use Rattle.ops.specs.declared.arith.Ints.TheVariants.{Are, Not}
 
--- ---- both as Floats
+-- ---- of two numbers
 
-module _ (f : FloatOp.Op) (a b : Number) {t : Bool} (e : t ≡ (counts a && counts b)) where
-  numbers : t ≡ (is_number (shown a) && is_number (shown b))
-  numbers = e ∙ ap₂ ◌&&◌ (counted a) (counted b)
+-- two Ints, where the operator takes Ints
+pub on-two-ints : (how : How) (p q : ℕ) (i : IntOp.Op) {o : Answer} → ((g : FloatOp.Op) × (how ≡ H.Either i g)) ⊎ (how ≡ H.Ints i) → o ≡ from_int (I.operate i (to_z w64 p) (to_z w64 q))
+    → o ≡ operate_of how (number (N.Int p)) (number (N.Int q))
+unfolding operate_of arith_of whole_of of_numbers is_number
+on-two-ints how p q i (inl e) h = rw e.1 h
+on-two-ints how p q i (inr e) h = rw e h
 
-  pub as_floats_lem : {u v : Option ℕ} {o : Answer} → u ≡ converted (shown a) → v ≡ converted (shown b) → t ≡ true → o ≡ floats f u v → o ≡ as_floats f (shown a) (shown b)
-  unfolding as_floats of_numbers
-  as_floats_lem d g h k = rw (sym numbers ∙ h) (k ∙ ap₂ (floats f) d g)
+-- not two Ints, or where the operator takes Floats alone
+module _ (how : How) (f : FloatOp.Op) where
+  pub on-floats : (a b : Number) {o : Answer} → how ≡ H.Floats f → o ≡ floats f (converted (number a)) (converted (number b)) → o ≡ operate_of how (number a) (number b)
+  unfolding operate_of as_floats of_numbers is_number
+  on-floats (N.Int p) (N.Int q) e h = rw e h
+  on-floats (N.Int p) (N.Float q) e h = rw e h
+  on-floats (N.Float p) (N.Int q) e h = rw e h
+  on-floats (N.Float p) (N.Float q) e h = rw e h
 
-  pub no_floats : t ≡ false → fault wrong_kind ≡ as_floats f (shown a) (shown b)
-  unfolding as_floats of_numbers
-  no_floats h = sym (rw (sym numbers ∙ h))
+  pub on-int-float : (p q : ℕ) {o : Answer} → ((i : IntOp.Op) × (how ≡ H.Either i f)) ⊎ (how ≡ H.Floats f) → o ≡ floats f (converted (number (N.Int p))) (converted (number (N.Float q)))
+      → o ≡ operate_of how (number (N.Int p)) (number (N.Float q))
+  unfolding operate_of arith_of of_numbers is_number
+  on-int-float p q (inl e) h = rw e.1 h
+  on-int-float p q (inr e) h = on-floats (N.Int p) (N.Float q) e h
 
-module _ (f : FloatOp.Op) (x y : Option ℕ) where
-  pub floats-yes : {p q r : ℕ} {o : Answer} → x ≡ Some p → y ≡ Some q → r ≡ F.operate f (read p) (read q) → o ≡ is (float r) → o ≡ floats f x y
-  unfolding floats
-  floats-yes d e g h = rw (d, e) (h ∙ ap (λ (n : ℕ). is (float n)) g)
+  pub on-float-left : (p : ℕ) (b : Number) {o : Answer} → ((i : IntOp.Op) × (how ≡ H.Either i f)) ⊎ (how ≡ H.Floats f) → o ≡ floats f (converted (number (N.Float p))) (converted (number b))
+      → o ≡ operate_of how (number (N.Float p)) (number b)
+  unfolding operate_of arith_of of_numbers is_number
+  on-float-left p (N.Int q) (inl e) h = rw e.1 h
+  on-float-left p (N.Float q) (inl e) h = rw e.1 h
+  on-float-left p b (inr e) h = on-floats (N.Float p) b e h
 
-  pub floats-right : {p : ℕ} → x ≡ Some p → y ≡ None → fault not_exact ≡ floats f x y
-  unfolding floats
-  floats-right d e = rw (d, e)
+-- ---- of a value that is no number
 
-  pub floats-left : x ≡ None → fault not_exact ≡ floats f x y
-  unfolding floats
-  floats-left d = rw d
+left-kind : (how : How) (y : Datum) → fault wrong_kind ≡ operate_of how nil y
+unfolding operate_of arith_of as_floats whole_of of_numbers is_number
+left-kind (H.Either i f) y = refl
+left-kind (H.Floats f) y = refl
+left-kind (H.Ints i) y = refl
 
--- ---- two Ints, or not
-
-are : (a b : Number) {p q : ℕ} → Are p q ≡ ints_of a b → (a ≡ N.Int p) × (b ≡ N.Int q)
-are (N.Int p) (N.Int q) e = (cc, cc)
-are (N.Int p) (N.Float q) e = let z : ◌≡◌ {A = ℕ} 0 1 = cc in absurd (omega arith)
-are (N.Int p) N.Other e = let z : ◌≡◌ {A = ℕ} 0 1 = cc in absurd (omega arith)
-are (N.Float p) b e = let z : ◌≡◌ {A = ℕ} 0 1 = cc in absurd (omega arith)
-are N.Other b e = let z : ◌≡◌ {A = ℕ} 0 1 = cc in absurd (omega arith)
-
-not-ints : (i : IntOp.Op) (f : FloatOp.Op) (a b : Number) → Not ≡ ints_of a b
-    → (arith_of i f (shown a) (shown b) ≡ as_floats f (shown a) (shown b)) × (whole_of i (shown a) (shown b) ≡ fault wrong_kind)
-unfolding arith_of whole_of shown
-not-ints i f (N.Int p) (N.Int q) e = let z : ◌≡◌ {A = ℕ} 0 1 = cc in absurd (omega arith)
-not-ints i f (N.Int p) (N.Float q) e = (refl, refl)
-not-ints i f (N.Int p) N.Other e = (refl, refl)
-not-ints i f (N.Float p) b e = (refl, refl)
-not-ints i f N.Other b e = (refl, refl)
-
-module _ (how : How) (a b : Number) {w : Ints} (k : w ≡ ints_of a b) where
-  ints : (i : IntOp.Op) {p q : ℕ} → w ≡ Are p q → (f : FloatOp.Op) → (arith_of i f (shown a) (shown b) ≡ from_int (I.operate i (to_z w64 p) (to_z w64 q))) × (whole_of i (shown a) (shown b) ≡ from_int (I.operate i (to_z w64 p) (to_z w64 q)))
-  unfolding arith_of whole_of shown
-  ints i e f = let s = are a b (sym e ∙ k) in rw (s.0, s.1) (refl, refl)
-
-  pub arith-ints : {i : IntOp.Op} {f : FloatOp.Op} {p q : ℕ} {n : Outcome} {o : Answer} → how ≡ H.Either i f → w ≡ Are p q → n ≡ I.operate i (to_z w64 p) (to_z w64 q) → o ≡ from_int n
-      → o ≡ operate_of how (shown a) (shown b)
-  unfolding operate_of
-  arith-ints {i} {f} h e d g = rw h (g ∙ ap from_int d ∙ sym (ints i e f).0)
-
-  pub arith-others : {i : IntOp.Op} {f : FloatOp.Op} {o : Answer} → how ≡ H.Either i f → w ≡ Not → o ≡ as_floats f (shown a) (shown b) → o ≡ operate_of how (shown a) (shown b)
-  unfolding operate_of
-  arith-others {i} {f} h e g = rw h (g ∙ sym (not-ints i f a b (sym e ∙ k)).0)
-
-  pub whole-ints : {i : IntOp.Op} {p q : ℕ} {n : Outcome} {o : Answer} → how ≡ H.Ints i → w ≡ Are p q → n ≡ I.operate i (to_z w64 p) (to_z w64 q) → o ≡ from_int n → o ≡ operate_of how (shown a) (shown b)
-  unfolding operate_of
-  whole-ints {i} h e d g = rw h (g ∙ ap from_int d ∙ sym (ints i e FO.Add).1)
-
-  pub whole-others : {i : IntOp.Op} → how ≡ H.Ints i → w ≡ Not → fault wrong_kind ≡ operate_of how (shown a) (shown b)
-  unfolding operate_of
-  whole-others {i} h e = rw h (sym (not-ints i FO.Add a b (sym e ∙ k)).1)
-
-pub floats-always : (how : How) (x y : Datum) {f : FloatOp.Op} {o : Answer} → how ≡ H.Floats f → o ≡ as_floats f x y → o ≡ operate_of how x y
-unfolding operate_of
-floats-always how x y h g = rw h g
+right-kind : (how : How) (x : Datum) → fault wrong_kind ≡ operate_of how x nil
+unfolding operate_of arith_of as_floats whole_of of_numbers is_number
+right-kind how nil = left-kind how nil
+right-kind (H.Either i f) (bool b) = refl
+right-kind (H.Floats f) (bool b) = refl
+right-kind (H.Ints i) (bool b) = refl
+right-kind (H.Either i f) (int n) = refl
+right-kind (H.Floats f) (int n) = refl
+right-kind (H.Ints i) (int n) = refl
+right-kind (H.Either i f) (float p) = refl
+right-kind (H.Floats f) (float p) = refl
+right-kind (H.Ints i) (float p) = refl
 
 -- ---- of values that are no numbers the code sees only that
 
@@ -148,19 +117,8 @@ operate-seen (H.Ints i) x y = whole-seen i x y
 pub operate-by : (how : How) (x y : Datum) {u v : Datum} {o : Answer} → u ≡ as_number x → v ≡ as_number y → o ≡ operate_of how u v → o ≡ operate_of how x y
 operate-by how x y p q h = h ∙ ap₂ (operate_of how) p q ∙ operate-seen how x y
 
--- ---- the conversion rule of arithmetic
+pub no-left : (how : How) (x y : Datum) → nil ≡ as_number x → fault wrong_kind ≡ operate_of how x y
+no-left how x y e = left-kind how (as_number y) ∙ ap (λ z. operate_of how z (as_number y)) e ∙ operate-seen how x y
 
-module _ (a : Number) where
-  pub int-converted : {p : ℕ} {w : Option ℕ} → a ≡ N.Int p → w ≡ F.whole (to_z w64 p) → w ≡ converted (shown a)
-  unfolding converted shown F.whole
-  int-converted d e = rw d e
-
-  pub float-converted : {p : ℕ} → a ≡ N.Float p → Some p ≡ converted (shown a)
-  unfolding converted shown
-  float-converted d = rw d
-
-  pub other-converted : a ≡ N.Other → None ≡ converted (shown a)
-  unfolding converted shown
-  other-converted d = rw d
-
-pub ruleset answers = (as_floats_lem, no_floats, floats-yes, floats-right, floats-left, arith-ints, arith-others, whole-ints, whole-others, floats-always, operate-by, int-converted, float-converted, other-converted)
+pub no-right : (how : How) (x y : Datum) → nil ≡ as_number y → fault wrong_kind ≡ operate_of how x y
+no-right how x y e = right-kind how (as_number x) ∙ ap (operate_of how (as_number x)) e ∙ operate-seen how x y

@@ -1,7 +1,6 @@
 -- `binary` meets its contract: by the kind that an arm knows.
 use borrow.Author.Tests.{ne_eqb}
 use Rattle.ops.specs.Code.{operate_of}
-use borrow.Author.Rules.{rules}
 use Rattle.ops.proofs.binary.Goals as goal
 
 pub returns-in_default : goal.returns-in_default

@@ -1,81 +1,48 @@
 -- What each comparison answers, as the code finds it.
-use mathlib.Core.Path.{◌≡◌, refl, sym, ap, ap₂, ◌∙◌}
-use mathlib.Core.Bool.{Bool, true, false, ◌&&◌, cond}
-use Prim.Native.Nat.{ℕ, ◌^◌}
-use native.Mathlib.Omega.{arith}
-use lib.Dec.{leb, eqb}
-use lib.IntN.{nat_abs}
-use mir.Syntax.{w64}
-use mir.Val.{to_z}
-use Rattle.faults.specs.Numbers.{wrong_kind}
-use Rattle.int64.proofs.sign.Laws.{never}
-use Rattle.int64.specs.Order.{order_z, holds}
+use Rattle.std.proofs.Common.{◌≡◌, ℕ, Bool, true, false, ◌&&◌, refl, sym, arith}
 use Rattle.int64.specs.declared.order.Cmp.{Cmp}
-use Rattle.float.specs.Order.{order}
-use Rattle.float.specs.Bits.{read}
-use Rattle.float.specs.Standing.{standing}
-use Rattle.value.specs.Value.{Datum, kind_of, payload_of}
-use Rattle.value.specs.Answer.{Answer, fault, truth, is_number}
-use Rattle.value.specs.Seen.{shown, as_number, counts}
+use Rattle.value.specs.Value.{Datum, nil, bool, int, float}
+use Rattle.value.specs.Answer.{Answer, is_number}
+use Rattle.value.specs.Seen.{as_number, number}
 use Rattle.value.specs.declared.answer.Number.{Number}
 use Rattle.value.specs.declared.answer.Number.TheVariants as N
-use Rattle.value.proofs.answer.Seen.{counted, as-number, number_is}
-use Rattle.ops.specs.Compare.{mixed, mirror, compare_numbers, compare_others, compare_of, same}
+use Rattle.ops.specs.Compare.{compare_numbers, compare_others, compare_of, same}
 
-and-true : (s t : Bool) → (s && t) ≡ true → (s ≡ true) × (t ≡ true)
-and-true true t e = (refl, e)
-and-true false t e = never (sym e)
+-- a value that is seen as a number is that number; another one is none
+seen-is : (a : Number) (x : Datum) → number a ≡ as_number x → x ≡ number a
+unfolding as_number
+seen-is (N.Int p) nil e = let z : ◌≡◌ {A = ℕ} 0 1 = cc in absurd (omega arith)
+seen-is (N.Int p) (bool b) e = let z : ◌≡◌ {A = ℕ} 0 1 = cc in absurd (omega arith)
+seen-is (N.Float p) nil e = let z : ◌≡◌ {A = ℕ} 0 1 = cc in absurd (omega arith)
+seen-is (N.Float p) (bool b) e = let z : ◌≡◌ {A = ℕ} 0 1 = cc in absurd (omega arith)
+seen-is a (int n) e = sym e
+seen-is a (float p) e = sym e
 
--- the code has seen x and y as a and b, and t says whether both are numbers
-module _ (x y : Datum) (a b : Number) (t : Bool) (p : shown a ≡ as_number x) (q : shown b ≡ as_number y) (e : t ≡ (counts a && counts b)) where
-  both : t ≡ (is_number x && is_number y)
-  both = e ∙ ap₂ ◌&&◌ (counted a ∙ ap is_number p ∙ as-number x) (counted b ∙ ap is_number q ∙ as-number y)
+unseen : (x : Datum) → nil ≡ as_number x → is_number x ≡ false
+unfolding as_number is_number
+unseen nil e = refl
+unseen (bool b) e = refl
+unseen (int n) e = let z : ◌≡◌ {A = ℕ} 0 1 = cc in absurd (omega arith)
+unseen (float p) e = let z : ◌≡◌ {A = ℕ} 0 1 = cc in absurd (omega arith)
 
-  seen : t ≡ true → (shown a ≡ x) × (shown b ≡ y)
-  seen h = let k = and-true (is_number x) (is_number y) (sym both ∙ h) in (p ∙ number_is x k.0, q ∙ number_is y k.1)
+counts : (a : Number) → is_number (number a) ≡ true
+unfolding is_number
+counts (N.Int p) = refl
+counts (N.Float p) = refl
 
-  pub compare-yes : (c : Cmp) {o : Answer} → o ≡ compare_numbers c (shown a) (shown b) → t ≡ true → o ≡ compare_of c x y
+and-no : (b : Bool) → (b && false) ≡ false
+and-no true = refl
+and-no false = refl
+
+module _ (c : Cmp) (x y : Datum) {o : Answer} where
+  pub compare-yes : (a b : Number) → number a ≡ as_number x → number b ≡ as_number y → o ≡ compare_numbers c (number a) (number b) → o ≡ compare_of c x y
   unfolding compare_of
-  compare-yes c h k = rw (sym both ∙ k) (h ∙ ap₂ (compare_numbers c) (seen k).0 (seen k).1)
+  compare-yes a b e f h = rw (seen-is a x e, seen-is b y f, counts a, counts b) h
 
-  pub compare-no : (c : Cmp) {o : Answer} {s : Bool} {k l m n : ℕ} → o ≡ compare_others c s → s ≡ (eqb k l && eqb m n) → k ≡ kind_of x → m ≡ payload_of x → l ≡ kind_of y → n ≡ payload_of y → t ≡ false → o ≡ compare_of c x y
-  unfolding compare_of same
-  compare-no c h d f g u v z = rw (sym both ∙ z) (h ∙ ap (compare_others c) (d ∙ rw (f, g, u, v)))
+  pub compare-left : nil ≡ as_number x → o ≡ compare_others c (same x y) → o ≡ compare_of c x y
+  unfolding compare_of
+  compare-left e h = rw (unseen x e) h
 
--- ---- an Int with a Float
-
-pub mixed-is : (c : Cmp) (p q : ℕ) {t : Bool} {o : Answer} → t ≡ holds c (standing (to_z w64 p) q) → o ≡ truth t → o ≡ mixed c (to_z w64 p) q
-unfolding mixed
-mixed-is c p q d h = h ∙ ap truth d
-
-module _ (c : Cmp) (a b : Number) {o : Answer} where
-  pub compare-ints : {p q : ℕ} {t : Bool} → a ≡ N.Int p → b ≡ N.Int q → t ≡ holds c (order_z (to_z w64 p) (to_z w64 q)) → o ≡ truth t → o ≡ compare_numbers c (shown a) (shown b)
-  unfolding compare_numbers shown
-  compare-ints d e g h = rw (d, e) (h ∙ ap truth g)
-
-  pub compare-floats : {p q : ℕ} {t : Bool} → a ≡ N.Float p → b ≡ N.Float q → t ≡ holds c (order (read p) (read q)) → o ≡ truth t → o ≡ compare_numbers c (shown a) (shown b)
-  unfolding compare_numbers shown
-  compare-floats d e g h = rw (d, e) (h ∙ ap truth g)
-
-  pub compare-int-float : {p q : ℕ} → a ≡ N.Int p → b ≡ N.Float q → o ≡ mixed c (to_z w64 p) q → o ≡ compare_numbers c (shown a) (shown b)
-  unfolding compare_numbers shown
-  compare-int-float d e h = rw (d, e) h
-
-  pub compare-float-int : {p q : ℕ} {m : Cmp} → a ≡ N.Float p → b ≡ N.Int q → m ≡ mirror c → o ≡ mixed m (to_z w64 q) p → o ≡ compare_numbers c (shown a) (shown b)
-  unfolding compare_numbers shown
-  compare-float-int {p} {q} d e g h = rw (d, e) (h ∙ ap (λ (k : Cmp). mixed k (to_z w64 q) p) g)
-
-module _ (c : Cmp) (a b : Number) where
-  pub compare-int-other : {p : ℕ} → a ≡ N.Int p → b ≡ N.Other → fault wrong_kind ≡ compare_numbers c (shown a) (shown b)
-  unfolding compare_numbers shown
-  compare-int-other d e = rw (d, e)
-
-  pub compare-float-other : {p : ℕ} → a ≡ N.Float p → b ≡ N.Other → fault wrong_kind ≡ compare_numbers c (shown a) (shown b)
-  unfolding compare_numbers shown
-  compare-float-other d e = rw (d, e)
-
-  pub compare-other : a ≡ N.Other → fault wrong_kind ≡ compare_numbers c (shown a) (shown b)
-  unfolding compare_numbers shown
-  compare-other d = rw d
-
-pub ruleset answers = (compare-yes, compare-no, mixed-is, compare-ints, compare-floats, compare-int-float, compare-float-int, compare-int-other, compare-float-other, compare-other)
+  pub compare-right : nil ≡ as_number y → o ≡ compare_others c (same x y) → o ≡ compare_of c x y
+  unfolding compare_of
+  compare-right e h = rw (unseen y e, and-no (is_number x)) h

@@ -1,6 +1,5 @@
 -- `minus` meets its contract: Mul by Int -1.
 use Rattle.ops.specs.Code.{operate_of}
-use borrow.Author.Rules.{rules}
 use Rattle.ops.proofs.minus.Goals as goal
 
 pub returns : goal.returns

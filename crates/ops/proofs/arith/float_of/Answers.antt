@@ -1,13 +1,8 @@
--- `float_of` meets its contract: by the kind of number.
-use Rattle.ops.proofs.arith.Laws.{answers}
-use borrow.Author.Rules.{rules}
+-- `float_of` meets its contract: an Int that is exact is the Float of that value.
+use Rattle.float.specs.Float.{whole}
+use Rattle.ops.specs.Arith.{converted}
 use Rattle.ops.proofs.arith.float_of.Goals as goal
 
 pub returns-in-Int : goal.returns-in-Int
-returns-in-Int c = search (answers, rules)
-
-pub returns-in-Float : goal.returns-in-Float
-returns-in-Float c = search (answers, rules)
-
-pub returns-in-Other : goal.returns-in-Other
-returns-in-Other c = search (answers, rules)
+unfolding converted whole
+returns-in-Int c = rw c.in-Int.is c.from_int.ensures
