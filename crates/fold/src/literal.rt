@@ -3,25 +3,9 @@ ghost use Rattle.std.specs.Prelude.{◌≡◌, ltb};
 ghost use Rattle.std.specs.Int.Signed.{mag};
 ghost use Rattle.table.specs.Nodes.{Inner};
 ghost use Rattle.table.specs.Tree.{tree};
-ghost use Rattle.fold.specs.Literal.{bits, bit_run, fits_imm40, lit_of, const_of, imm_of, as_imm16, amount_of};
+ghost use Rattle.fold.specs.Literal.{bit_run, fits_imm40, lit_of, const_of, imm_of, as_imm16, amount_of};
 
 use insns::op::Imm16;
-
-// How many bits equal to `bit` stand first in m, from the lowest.
-fn bits_of(bit: u64, m: u64) -> u64
-    ensures { result ≡ bits bit 64 m }
-{
-    let mut x = m;
-    let mut n = 0;
-    while n < 64 {
-        if x % 2 != bit {
-            return n;
-        }
-        x = x / 2;
-        n += 1;
-    }
-    n
-}
 
 // A mask that is one run of set bits, as the position of its lowest set bit and the length of the run. Runs of more than 62 bits are rejected, as in
 // the Rust, where a mask must not need boxing; that it is a fixnum `const_value` has tested.
@@ -32,12 +16,12 @@ pub(crate) fn bit_run(mask: i64) -> Option<(u8, u8)>
         return None;
     }
     let m = mask as u64;
-    let lo = bits_of(0, m);
+    let lo = m.trailing_zeros();
     if 62 < lo {
         return None;
     }
     let x = m >> lo;
-    let len = bits_of(1, x);
+    let len = x.trailing_ones();
     let top = lo + len;
     if 62 < top {
         return None;

@@ -5,9 +5,10 @@ use mathlib.Core.Path.{◌≡◌, refl, sym, ap, subst, ◌∙◌}
 use mathlib.Core.Bool.{Bool, true, false, cond, ◌&&◌}
 use mathlib.Core.List.{List}
 use Prim.Native.Nat.{ℕ, zero, suc, ◌+◌, ◌-◌, ◌/◌, ◌%◌, ◌<◌, ◌≤◌, ◌^◌}
-use native.Mathlib.Nat.{zero-add}
+use native.Mathlib.Nat.{pow-succ'}
 use native.Mathlib.Omega.{arith}
 use lib.Dec.{T, ltb, eqb}
+use lib.Count.{count_trailing_zeros, under}
 use lib.IntN.{ℤ, pos, negsuc, nat_abs}
 use lib.Signed.{mag, le_z, lt_z, non_neg}
 use mir.Syntax.{w8, w16, w64}
@@ -18,6 +19,7 @@ use Rattle.table.specs.Nodes.{Inner}
 use Rattle.table.specs.Tree.{int, Tree, leaf, Kind, leaf_kind, unary_kind, binary_kind, ternary_kind, no_kind, kind_of, tree}
 use Rattle.table.proofs.Arities.{at-kind}
 use Rattle.table.proofs.Trees.{View, is_leaf, is-unary, is-binary, is-ternary, view, leaf-at}
+use Rattle.std.proofs.lemmas.Nat.{shr_le}
 use Rattle.insns.proofs.bits.Sign.{back}
 use Rattle.fold.specs.Literal.{is_fixnum, fixnum, bits, run_at, run_from, bit_run, lit_of, const_of, imm_of, as_imm16, amount_of}
 
@@ -81,30 +83,31 @@ pub ruleset sizes = (within-is, within_by, imm-fits, imm-far, amount-neg, amount
 
 -- ---- the bits that stand first in a number
 
-module _ (b m n x : ℕ) (h : bits b 64 m ≡ n + bits b (64 - n) x) where
-  bits-step : n < 64 → bits b (64 - n) x ≡ cond (eqb (x % 2) b) (suc (bits b (64 - (n + 1)) (x / 2))) 0
-  unfolding bits
-  bits-step l = let e : 64 - n ≡ suc (64 - (n + 1)) = omega arith in rw e
+-- std counts the same: a trailing zero is a bit equal to 0
+pub zeros-are-bits : (f n : ℕ) → count_trailing_zeros f n ≡ bits 0 f n
+unfolding bits count_trailing_zeros
+zeros-are-bits zero n = refl
+zeros-are-bits (suc f) n = go (n % 2) (zeros-are-bits f (n / 2))
+  where
+    go : (d : ℕ) {t u : ℕ} → t ≡ u → under d t ≡ cond (eqb d 0) (suc u) 0
+    go zero e = ap suc e
+    go (suc d) e = rw (ne_eqb (suc d) 0 (λ z. omega arith))
 
-  pub bits-end : n < 64 → (x % 2 ≡ b → ⊥) → n ≡ bits b 64 m
-  bits-end l g =
-      let s : bits b (64 - n) x ≡ 0 = bits-step l ∙ rw (ne_eqb (x % 2) b g) in
-      omega (arith, h, s)
-
-  pub bits-next : n < 64 → x % 2 ≡ b → bits b 64 m ≡ n + 1 + bits b (64 - (n + 1)) (x / 2)
-  bits-next l g =
-      let s : bits b (64 - n) x ≡ suc (bits b (64 - (n + 1)) (x / 2)) = bits-step l ∙ rw (eq-eqb (x % 2) b g) in
-      omega (arith, h, s)
-
-  pub bits-all : 64 ≤ n → n ≤ 64 → n ≡ bits b 64 m
-  unfolding bits
-  bits-all l k =
-      let e : n ≡ 64 = omega arith in
-      let s : bits b (64 - n) x ≡ 0 = rw e in
-      omega (arith, h, s)
-
-pub bits-first : (b m : ℕ) → bits b 64 m ≡ 0 + bits b 64 m
-bits-first b m = sym (zero-add (bits b 64 m))
+-- and a trailing one is a trailing zero of the complement
+pub ones-are-bits : (f n : ℕ) → n < 2 ^ f → count_trailing_zeros f (2 ^ f - 1 - n) ≡ bits 1 f n
+unfolding bits count_trailing_zeros
+ones-are-bits zero n h = refl
+ones-are-bits (suc f) n h =
+    let q = pow-succ' 2 f in
+    let half : (2 ^ suc f - 1 - n) / 2 ≡ 2 ^ f - 1 - n / 2 = omega arith in
+    let odd : (2 ^ suc f - 1 - n) % 2 ≡ 1 - n % 2 = omega arith in
+    let small : n % 2 < 2 = omega arith in
+    rw (half, odd) (go (n % 2) small (ones-are-bits f (n / 2) (omega arith)))
+  where
+    go : (d : ℕ) → d < 2 → {t u : ℕ} → t ≡ u → under (1 - d) t ≡ cond (eqb d 1) (suc u) 0
+    go zero l e = refl
+    go (suc zero) l e = ap suc e
+    go (suc (suc d)) l e = absurd (omega arith)
 
 pub bits-le : (b f m : ℕ) → bits b f m ≤ f
 unfolding bits
@@ -141,6 +144,13 @@ module _ (z : ℤ) (f : mag z < 9223372036854775808) where
         go (pos n) g e = (tt, record { fits = omega arith })
         go (negsuc n) g e = never e
 
+    pub ones-of : (k : ℕ) {len : ℕ} → len ≡ count_trailing_zeros 64 (2 ^ 64 - 1 - nat_abs (to_z w64 (of_z w64 z)) / 2 ^ k)
+        → len ≡ bits 1 64 (nat_abs (to_z w64 (of_z w64 z)) / 2 ^ k)
+    ones-of k e =
+        let s = run-cast.1.fits in
+        let l = shr_le (nat_abs (to_z w64 (of_z w64 z))) k in
+        e ∙ ones-are-bits 64 _ (omega arith)
+
     run_is : run_from (nat_abs (to_z w64 (of_z w64 z))) (bits 0 64 (nat_abs (to_z w64 (of_z w64 z)))) ≡ bit_run z
     unfolding bit_run
     run_is = rw (held z f) (go z (rw (held z f) at h))
@@ -167,8 +177,6 @@ module _ (z : ℤ) (f : mag z < 9223372036854775808) where
         pub run-ones : lo + len ≤ 62 → nat_abs (to_z w64 (of_z w64 z)) / 2 ^ lo / 2 ^ len ≡ 0 → Some (lo, len) ≡ bit_run z
         unfolding run_from run_at
         run-ones l n = sym (sym run_is ∙ rw (← e, ← g, eq-eqb (nat_abs (to_z w64 (of_z w64 z)) / 2 ^ lo / 2 ^ len) 0 n, le-leb (lo + len) 62 l))
-
-pub ruleset runs = (bits_small, run_none, run-low, run_long, run-above, run-ones)
 
 -- ---- the literal at a node
 

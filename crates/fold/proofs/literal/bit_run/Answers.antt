@@ -1,25 +1,34 @@
 -- `literal::bit_run` meets its contract: by what is found, from the lowest bit up.
-use borrow.Author.Rules.{rules}
-use Rattle.fold.proofs.literal.Literals.{runs, run-cast, bits_small}
+use Rattle.std.proofs.Common.{arith}
+use Rattle.fold.proofs.literal.Literals.{zeros-are-bits, bits_small, run_none, run-cast, ones-of, run-low, run_long, run-above, run-ones}
 use Rattle.fold.proofs.literal.bit_run.Goals as goal
 
 pub returns-then-mask-le0 : goal.returns-then-mask-le0
-returns-then-mask-le0 c = search (runs, rules)
+returns-then-mask-le0 c = run_none c.args.mask c.ranges.mask.sfits c.if-mask-le0.true
 
 pub overflow_cast-m : goal.overflow_cast-m
 overflow_cast-m c = run-cast c.args.mask c.ranges.mask.sfits c.if-mask-le0.false
 
 pub returns-then-lo-gt62 : goal.returns-then-lo-gt62
-returns-then-lo-gt62 c = search (runs, rules)
+returns-then-lo-gt62 c = run-low c.args.mask c.ranges.mask.sfits c.if-mask-le0.false (zeros-are-bits 64 _) c.if-lo-gt62.true
 
 pub overflow_add-top : goal.overflow_add-top
-overflow_add-top c = let h = bits_small 1 _ c.bits_of-len.ensures in search rules
+overflow_add-top c =
+    let g = ones-of c.args.mask c.ranges.mask.sfits c.if-mask-le0.false _ c.trailing_ones-len.ensures in
+    let h = bits_small 1 _ g in
+    omega arith
 
 pub returns-then-top-gt62 : goal.returns-then-top-gt62
-returns-then-top-gt62 c = search (runs, rules)
+returns-then-top-gt62 c =
+    let g = ones-of c.args.mask c.ranges.mask.sfits c.if-mask-le0.false _ c.trailing_ones-len.ensures in
+    run_long c.args.mask c.ranges.mask.sfits c.if-mask-le0.false (zeros-are-bits 64 _) g c.if-top-gt62.true
 
 pub returns-then-x-len-ne0 : goal.returns-then-x-len-ne0
-returns-then-x-len-ne0 c = search (runs, rules)
+returns-then-x-len-ne0 c =
+    let g = ones-of c.args.mask c.ranges.mask.sfits c.if-mask-le0.false _ c.trailing_ones-len.ensures in
+    run-above c.args.mask c.ranges.mask.sfits c.if-mask-le0.false (zeros-are-bits 64 _) g c.if-x-len-ne0.true
 
 pub returns : goal.returns
-returns c = search (runs, rules)
+returns c =
+    let g = ones-of c.args.mask c.ranges.mask.sfits c.if-mask-le0.false _ c.trailing_ones-len.ensures in
+    run-ones c.args.mask c.ranges.mask.sfits c.if-mask-le0.false (zeros-are-bits 64 _) g c.if-top-gt62.false c.if-x-len-ne0.false
