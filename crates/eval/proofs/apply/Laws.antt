@@ -1,25 +1,23 @@
 -- Tests, operators and leaves, over plain values.
-use Rattle.std.specs.Prelude.{Option, Some, None, Result, Ok, Err, IsErrAnd}
+use Rattle.std.specs.Prelude.{Result, Ok, Err, IsErrAnd}
 use Rattle.faults.specs.declared.Fault.{Fault}
 use mathlib.Core.Path.{◌≡◌, refl, sym, ◌∙◌, ap}
 use mathlib.Core.Bool.{Bool, true, false, cond}
 use mathlib.Core.List.{List}
-use Prim.Native.Nat.{ℕ, ◌≤◌, ◌<◌}
+use Prim.Native.Nat.{ℕ, ◌<◌}
 use native.Mathlib.Omega.{arith}
 use lib.Dec.{eqb}
 use lib.ListN.{length, get_or}
 use borrow.Author.Tests.{eq-eqb, ne_eqb}
-use Rattle.faults.specs.Numbers.{ill_formed}
-use Rattle.value.specs.Value.{nil, bool, int, float, meaning, Read, read_of, of_pair, datums}
+use Rattle.value.specs.Value.{nil, bool, int, float, meaning, of_pair, datums}
 use Rattle.value.proofs.PairLaws.{well-at, well-is, datum-at}
 use Rattle.value.specs.declared.Value.{Value}
 use Rattle.ops.specs.Ops as Ops
 use Rattle.ops.specs.Not as Not
 use Rattle.value.specs.Answer.{Answer, is, fault, result_of}
 use Rattle.eval.specs.Next.{truth_of}
-use Rattle.eval.specs.declared.next.Rule.{Rule}
 use Rattle.eval.specs.Apply.{on, both, whether, test}
-use Rattle.eval.specs.Steps.{Lends, pair_of, alone_of, joined_of}
+use Rattle.eval.specs.Steps.{Lends, pair_of}
 
 -- ---- a fault is what a `?` returns
 
@@ -82,44 +80,6 @@ module _ (k : ℕ) {x : Result Value Fault} where
     pub unary-not : (k ≡ 6 → ⊥) → r ≡ Not.not_of (meaning a) → r ≡ on (cond (eqb k 6) Ops.minus_of Not.not_of) (result_of x)
     unfolding on
     unary-not h q = rw (e, ne_eqb k 6 h) q
-
--- ---- the rule of a node
-
--- a match on the rule: what holds of the variant holds of the rule
-module _ {r q : Rule} (e : r ≡ q) where
-  pub alone-by : (k : ℕ) (a : Answer) {s : Answer} → s ≡ alone_of q k a → s ≡ alone_of r k a
-  alone-by k a h = rw e h
-
-  pub joined_by : (k : ℕ) (a b : Answer) {s : Answer} → s ≡ joined_of q k a b → s ≡ joined_of r k a b
-  joined_by k a b h = rw e h
-
-pub ruleset rules = (alone-by, joined_by)
-
--- ---- leaves
-
-pub pair-well : (x : Read) {l : Option Value} {v : Value} → read_of l ≡ x → l ≡ Some v → is (meaning v) ≡ pair_of x
-pair-well x e h = rw (← e, h)
-
-pub pair-ill : (x : Read) {l : Option Value} → read_of l ≡ x → l ≡ None → fault ill_formed ≡ pair_of x
-pair-ill x e h = rw (← e, h)
-
-pub ruleset pairs = (pair-well, pair-ill)
-
-pub entry-by : (xs : List Answer) (d : Answer) {k q : ℕ} {r : Answer} → k ≡ q → r ≡ get_or xs q d → r ≡ get_or xs k d
-entry-by xs d e h = rw e h
-
--- the kind of the last arm is 5
-module _ {k : ℕ} (h : k ≤ 5) (n0 : k ≡ 0 → ⊥) (n1 : k ≡ 1 → ⊥) (n2 : k ≡ 2 → ⊥) (n3 : k ≡ 3 → ⊥) (n4 : k ≡ 4 → ⊥) where
-  five : k ≡ 5
-  five = omega arith
-
-  pub ref-in : {p n : ℕ} → (k ≡ 5 → p < n) → p < n
-  ref-in f = f five
-
-  pub entry-last : (xs : List Answer) (d : Answer) {r : Answer} → r ≡ get_or xs 5 d → r ≡ get_or xs k d
-  entry-last xs d q = entry-by xs d five q
-
-pub ruleset entries = (ref-in, entry-by, entry-last)
 
 -- a local is its value
 module _ {ks ps : List ℕ} (l : Lends ks ps) {p : ℕ} (h : p < length ks) where
