@@ -79,9 +79,7 @@ pub fn alone(r: Rule, k: u64, a: Result<Value, Fault>) -> Result<Value, Fault>
     match r {
         Rule::Unary => unary(k, a),
         Rule::Operator => a,
-        Rule::And => tested(a),
-        Rule::Or => tested(a),
-        Rule::Ternary => tested(a),
+        Rule::And | Rule::Or | Rule::Ternary => tested(a),
     }
 }
 
@@ -97,8 +95,7 @@ pub fn joined(
     match r {
         Rule::Unary => b,
         Rule::Operator => binary(k, a, b),
-        Rule::And => tested(b),
-        Rule::Or => tested(b),
+        Rule::And | Rule::Or => tested(b),
         Rule::Ternary => b,
     }
 }

@@ -24,11 +24,8 @@ fn truth_of(v: Value) -> Result<bool, Fault>
     ensures { result ≡ truth_of (is (Vs.meaning v)) }
 {
     match v {
-        Value::Nil => Err(Fault::WrongKind),
         Value::Bool(t) => Ok(t),
-        Value::Int(_) => Err(Fault::WrongKind),
-        Value::Float(_) => Err(Fault::WrongKind),
-        Value::Nan(_) => Err(Fault::WrongKind),
+        _ => Err(Fault::WrongKind),
     }
 }
 
@@ -65,9 +62,7 @@ pub fn first(nodes: &[u64], i: usize, r: Rule) -> usize
 {
     match r {
         Rule::Unary => child_1(nodes, i),
-        Rule::Operator => child_2(nodes, i),
-        Rule::And => child_2(nodes, i),
-        Rule::Or => child_2(nodes, i),
+        Rule::Operator | Rule::And | Rule::Or => child_2(nodes, i),
         Rule::Ternary => child_3(nodes, i),
     }
 }
