@@ -1,4 +1,4 @@
-// The number above the opcode, cut upward into the fields of each form. Nothing may be left above them: unused high bits are 0, else 10.
+// The number above the opcode, cut upward into the fields of each form. Nothing may be left above them: unused high bits are 0.
 ghost use Rattle.std.specs.Prelude.{◌≡◌, ◌*◌, ◌<◌, ◌≤◌, ◌^◌, Some};
 ghost use Rattle.decode.specs.Decode.{signed, whole, if_raw, decode_as};
 ghost use Rattle.insns.specs.declared.op.Form.{Form};
@@ -13,29 +13,24 @@ pub fn signed_of(n: u64, half: u64) -> i64
     ensures { result ≡ signed half n }
 {
     if n < half {
-        return n as i64;
+        n as i64
+    } else {
+        !((2 * half - 1 - n) as i64)
     }
-    !((2 * half - 1 - n) as i64)
 }
 
 // i, where nothing is left above its fields.
 pub fn if_whole(rest: u64, i: Op) -> Option<Op>
     ensures { result ≡ whole rest (Some i) }
 {
-    if rest == 0 {
-        return Some(i);
-    }
-    None
+    (rest == 0).then_some(i)
 }
 
 // d, where n is the raw bits of a value.
 pub fn if_raw(n: u64, d: Option<Op>) -> Option<Op>
     ensures { result ≡ if_raw n d }
 {
-    if is_raw(n) {
-        return d;
-    }
-    None
+    if is_raw(n) { d } else { None }
 }
 
 pub fn two_of(k: Two, x: u64) -> Option<Op>

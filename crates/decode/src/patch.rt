@@ -50,9 +50,7 @@ fn aim_field(low: u64, place: u64, half: u64, r: Option<Disp>) -> Result<u64, Fa
     requires { Place low place half }
     ensures { result ≡ aim_field low place half r }
 {
-    let Some(disp) = r else {
-        return Err(Fault::TooFar);
-    };
+    let disp = r.ok_or(Fault::TooFar)?;
     let n = signed_bits(disp.by as i64, half);
     if n < 2 * half {
         return Ok(low + place * n);
@@ -81,7 +79,7 @@ fn aim_branch(w: u64, r: Option<Disp>) -> Result<u64, Fault>
     Err(Fault::Undecoded)
 }
 
-// A word of any other opcode: 10 or 11.
+// A word of any other opcode.
 fn no_branch(w: u64) -> Result<u64, Fault>
     ensures { result ≡ unaimed (decode_of w) }
 {

@@ -7,10 +7,7 @@ ghost use Rattle.insns.specs.Bits.{twos, is_raw};
 pub fn magnitude(z: i64) -> u64
     ensures { result ≡ mag z }
 {
-    if z < 0 {
-        return (!z) as u64;
-    }
-    z as u64
+    if z < 0 { !z as u64 } else { z as u64 }
 }
 
 // The bits of z in a field of 2 * half numbers, or 2 * half where z does not fit.
@@ -32,14 +29,8 @@ pub fn signed_bits(z: i64, half: u64) -> u64
 pub fn is_raw(n: u64) -> bool
     ensures { result ≡ is_raw n }
 {
-    if n % 4 == 0 {
-        return true;
+    match n {
+        1 | 5 | 9 => true,
+        _ => n % 4 == 0,
     }
-    if n == 1 {
-        return true;
-    }
-    if n == 5 {
-        return true;
-    }
-    n == 9
 }

@@ -57,8 +57,5 @@ pub fn raw_bits(imm: Imm40) -> u64
     ensures { result ≡ raw_bits imm.raw }
 {
     let n = signed_bits(imm.raw, HALF_40);
-    if is_raw(n) {
-        return n;
-    }
-    SIZE_40
+    if is_raw(n) { n } else { SIZE_40 }
 }

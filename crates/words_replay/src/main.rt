@@ -1,9 +1,8 @@
 // Replays words: operands to a constructor, words to `decode`, branches to `decode::patch`. Writes the answers; tools/oracle/README.md has the layout.
 #![tactic(auto)]
 
-use faults::Fault;
 use insns::Insn;
-use insns::fields::{HALF_16, HALF_32, SIZE_8, SIZE_16, SIZE_32};
+use insns::fields::{SIZE_8, SIZE_16, SIZE_32};
 use insns::op::{Disp, Imm16, Imm40, Op};
 use operands::of_op::{PlainOp, plain_op};
 use std::io;
@@ -23,22 +22,14 @@ fn wide_of(x: u64) -> u32 {
 }
 
 fn imm16_of(x: u64) -> Imm16 {
-    let y = x % SIZE_16;
-    if y < HALF_16 {
-        return Imm16 { n: y as i16 };
-    }
     Imm16 {
-        n: !((SIZE_16 - 1 - y) as i16),
+        n: reg_of(x).cast_signed(),
     }
 }
 
 fn disp_of(x: u64) -> Disp {
-    let y = x % SIZE_32;
-    if y < HALF_32 {
-        return Disp { by: y as i32 };
-    }
     Disp {
-        by: !((SIZE_32 - 1 - y) as i32),
+        by: wide_of(x).cast_signed(),
     }
 }
 
@@ -207,24 +198,10 @@ fn construct(op: u64, x1: u64, x2: u64, x3: u64, x4: u64, x5: u64) -> Option<Ins
     call_word(k, x1, x2, x3, x4)
 }
 
-// An answer: a number and up to six more.
-fn write_row<W: Write>(
-    output: &mut W,
-    n: u64,
-    a: u64,
-    b: u64,
-    c: u64,
-    d: u64,
-    e: u64,
-    f: u64,
-) -> io::Result<()> {
+// An answer: a number and six more, and a 0 that fills the record.
+fn write_row<W: Write>(output: &mut W, n: u64, rest: [u64; 6]) -> io::Result<()> {
     replay_io::write_word(output, n)?;
-    replay_io::write_word(output, a)?;
-    replay_io::write_word(output, b)?;
-    replay_io::write_word(output, c)?;
-    replay_io::write_word(output, d)?;
-    replay_io::write_word(output, e)?;
-    replay_io::write_word(output, f)?;
+    replay_io::write_words(output, &rest)?;
     replay_io::write_word(output, 0)
 }
 
@@ -234,14 +211,14 @@ fn wide(op: u8) -> u64 {
 
 // The opcode of a decoded instruction and its operands in declared order.
 fn write_plain<W: Write>(output: &mut W, n: u64, p: PlainOp) -> io::Result<()> {
-    write_row(output, n, p.opcode, p.a, p.b, p.c, p.d, p.e)
+    write_row(output, n, [p.opcode, p.a, p.b, p.c, p.d, p.e])
 }
 
 fn write_made<W: Write>(output: &mut W, m: Option<Insn>) -> io::Result<()> {
     let n = wide(insns::number_of(m));
     match m {
-        Some(w) => write_row(output, n, w.bits, 0, 0, 0, 0, 0),
-        None => write_row(output, n, 0, 0, 0, 0, 0, 0),
+        Some(w) => write_row(output, n, [w.bits, 0, 0, 0, 0, 0]),
+        None => write_row(output, n, [0; 6]),
     }
 }
 
@@ -249,17 +226,8 @@ fn write_decoded<W: Write>(output: &mut W, d: Option<Op>) -> io::Result<()> {
     let n = wide(decode::number_of(d));
     match d {
         Some(i) => write_plain(output, n, plain_op(i)),
-        None => write_row(output, n, 0, 0, 0, 0, 0, 0),
+        None => write_row(output, n, [0; 6]),
     }
-}
-
-// Patches the first n words of a store.
-fn patch_in(store: &mut [u64], n: u64, at: u64, target: u64) -> Result<(), Fault> {
-    if n < store.len() as u64 {
-        let k = n as usize;
-        return decode::patch::patch(&mut store[..k], at as usize, target);
-    }
-    decode::patch::patch(store, at as usize, target)
 }
 
 // Patches a store of four words, of which n are in use, and writes the number and the store.
@@ -270,30 +238,21 @@ fn replay_patch<W: Write>(
     target: u64,
     mut store: [u64; 4],
 ) -> io::Result<()> {
-    let p = patch_in(&mut store, n, at, target);
-    replay_io::write_word(output, wide(faults::number_of(p)))?;
-    replay_io::write_words(output, &store)?;
-    replay_io::write_word(output, 0)?;
-    replay_io::write_word(output, 0)?;
-    replay_io::write_word(output, 0)
+    let n = replay_io::within(n, store.len());
+    let p = decode::patch::patch(&mut store[..n], at as usize, target);
+    let [d, e, f, g] = store;
+    write_row(output, wide(faults::number_of(p)), [d, e, f, g, 0, 0])
 }
 
 fn replay<R: Read, W: Write>(input: &mut R, output: &mut W) -> io::Result<()> {
-    let job = replay_io::read_word(input)?;
-    let a = replay_io::read_word(input)?;
-    let b = replay_io::read_word(input)?;
-    let c = replay_io::read_word(input)?;
-    let d = replay_io::read_word(input)?;
-    let e = replay_io::read_word(input)?;
-    let f = replay_io::read_word(input)?;
-    let g = replay_io::read_word(input)?;
-    if job == 0 {
-        return write_made(output, construct(a, b, c, d, e, f));
+    let mut record = [0u64; 8];
+    replay_io::read_words(input, &mut record, 8)?;
+    let [job, a, b, c, d, e, f, g] = record;
+    match job {
+        0 => write_made(output, construct(a, b, c, d, e, f)),
+        1 => write_decoded(output, decode::decode(a)),
+        _ => replay_patch(output, a, b, c, [d, e, f, g]),
     }
-    if job == 1 {
-        return write_decoded(output, decode::decode(a));
-    }
-    replay_patch(output, a, b, c, [d, e, f, g])
 }
 
 fn main(rt: HostRuntime) -> io::Result<()> {

@@ -68,8 +68,6 @@ module _ (low place half : ℕ) {r : Option Disp} where
     unfolding aim_field
     past-field h = rw (e, ← number, le-ltb n (2 * half) h)
 
-pub ruleset numbers = (none, in_field, past-field)
-
 -- ---- a field above others
 
 pack-end : (fs : List Field) (m v : ℕ) → pack (fs ++ ((m, v) ∷ [])) ≡ pack fs + sizes fs * v

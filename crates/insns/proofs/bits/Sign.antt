@@ -10,7 +10,6 @@ use lib.Signed.{mag, lt_z}
 use mir.Syntax.{Width, w64}
 use mir.Val.{SFits, hbits, to_z, of_z}
 use mir.Facts.{to_z-of_z, sfits_widen}
-use mir.ValLaws.{to_z_pos}
 use Rattle.insns.specs.Bits.{twos}
 
 -- the test `z < 0`, as a branch leaves it
@@ -22,18 +21,6 @@ not_neg n e = let h : n < 0 = ltb-true n 0 e in omega arith
 
 is-neg : (n : ℕ) → lt_z (negsuc n) (pos 0) ≡ false → ⊥
 is-neg n e = let z : ◌≡◌ {A = ℕ} 0 1 = cc in omega arith
-
--- `!z` of a negative z, read as a number
-pub flipped : (z : ℤ) → SFits w64 z → lt_z z (pos 0) ≡ true → to_z w64 (18446744073709551615 - of_z w64 z) ≡ pos (mag z)
-flipped (pos n) f e = absurd (not_neg n e)
-flipped (negsuc n) f e =
-    let k : n < 9223372036854775808 = f.sfits in
-    let b : 18446744073709551615 - (18446744073709551616 - suc n) ≡ n = omega arith in
-    ap (to_z w64) b ∙ to_z_pos w64 n k
-
-pub kept : (z : ℤ) → SFits w64 z → lt_z z (pos 0) ≡ false → to_z w64 (of_z w64 z) ≡ pos (mag z)
-kept (pos n) f e = to_z-of_z f
-kept (negsuc n) f e = absurd (is-neg n e)
 
 pub twos-far : (h : ℕ) (z : ℤ) → h ≤ mag z → twos h z ≡ 2 * h
 unfolding twos

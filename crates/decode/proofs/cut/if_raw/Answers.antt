@@ -5,5 +5,5 @@ use Rattle.decode.proofs.cut.if_raw.Goals as goal
 pub returns-then-is_raw : goal.returns-then-is_raw
 returns-then-is_raw c = search raw-so
 
-pub returns : goal.returns
-returns c = search raw-not
+pub returns-else-is_raw : goal.returns-else-is_raw
+returns-else-is_raw c = search raw-not

@@ -5,5 +5,5 @@ use Rattle.decode.proofs.cut.signed_of.Goals as goal
 pub returns-then-n-half : goal.returns-then-n-half
 returns-then-n-half c = read_low _ _ c.requires.0 c.if-n-half.true
 
-pub returns : goal.returns
-returns c = read-high _ _ c.requires.0 c.requires.1 c.if-n-half.false
+pub returns-else-n-half : goal.returns-else-n-half
+returns-else-n-half c = read-high _ _ c.requires.0 c.requires.1 c.if-n-half.false

@@ -1,28 +1,29 @@
--- `is_raw` meets its contract.
-use mathlib.Core.Path.{◌≡◌}
+-- `is_raw` meets its contract: 1, 5 and 9 are the raw bits of values, and of the other numbers those that 4 divides.
+use mathlib.Core.Path.{◌≡◌, refl}
+use mathlib.Core.Bool.{Bool, true, false, ◌||◌}
+use mathlib.Core.Logic.{◌⊎◌, inl, inr}
 use Prim.Native.Nat.{ℕ, ◌%◌}
 use lib.Dec.{eqb}
+use borrow.Author.Tests.{ne_eqb}
 use Rattle.insns.specs.Bits.{is_raw}
-use borrow.Author.Tests.{eq-eqb, ne_eqb}
 use Rattle.insns.proofs.bits.is_raw.Goals as goal
 
--- stated of a variable: at the need's own goal `simp` unfolds past its limit of steps
-last : (n : ℕ) → (n % 4 ≡ 0 → ⊥) → (n ≡ 1 → ⊥) → (n ≡ 5 → ⊥) → eqb n 9 ≡ is_raw n
+listed : (n : ℕ) → (n ≡ 1) ⊎ ((n ≡ 5) ⊎ (n ≡ 9)) → true ≡ is_raw n
 unfolding is_raw
-last n p q r = rw (ne_eqb (n % 4) 0 p, ne_eqb n 1 q, ne_eqb n 5 r)
+listed n (inl e) = rw e refl
+listed n (inr (inl e)) = rw e refl
+listed n (inr (inr e)) = rw e refl
 
-pub returns-then-n-eq0 : goal.returns-then-n-eq0
-unfolding is_raw
-returns-then-n-eq0 c = simp (eq-eqb _ _ c.if-n-eq0.true)
+or-none : (b : Bool) → b ≡ (b || false || false || false)
+or-none true = refl
+or-none false = refl
 
-pub returns-then-n-eq1 : goal.returns-then-n-eq1
+other : (n : ℕ) → ((n ≡ 1) ⊎ ((n ≡ 5) ⊎ (n ≡ 9)) → ⊥) → eqb (n % 4) 0 ≡ is_raw n
 unfolding is_raw
-returns-then-n-eq1 c = simp (ne_eqb _ _ c.if-n-eq0.false, eq-eqb _ _ c.if-n-eq1.true)
+other n p = rw (ne_eqb n 1 (λ e. p (inl e)), ne_eqb n 5 (λ e. p (inr (inl e))), ne_eqb n 9 (λ e. p (inr (inr e)))) (or-none (eqb (n % 4) 0))
 
-pub returns-then-n-eq5 : goal.returns-then-n-eq5
-unfolding is_raw
-returns-then-n-eq5 c = simp (ne_eqb _ _ c.if-n-eq0.false, ne_eqb _ _ c.if-n-eq1.false, eq-eqb _ _ c.if-n-eq5.true)
+pub returns-in-1 : goal.returns-in-1
+returns-in-1 c = listed _ c.in-1.is
 
-pub returns : goal.returns
-unfolding is_raw
-returns c = last _ c.if-n-eq0.false c.if-n-eq1.false c.if-n-eq5.false
+pub returns-in_default : goal.returns-in_default
+returns-in_default c = search other

@@ -14,9 +14,9 @@ returns-then-is_raw c =
     let bits : c.signed_bits-n.result ≡ twos 549755813888 c.args.imm.raw = c.signed_bits-n.ensures ∙ ap (twos 549755813888) e in
     rw (← bits, sym c.is_raw.ensures ∙ c.if-is_raw.true)
 
-pub returns : goal.returns
+pub returns-else-is_raw : goal.returns-else-is_raw
 unfolding raw_bits
-returns c =
+returns-else-is_raw c =
     let e : to_z w64 (of_z w64 c.args.imm.raw) ≡ c.args.imm.raw = search rules in
     let bits : c.signed_bits-n.result ≡ twos 549755813888 c.args.imm.raw = c.signed_bits-n.ensures ∙ ap (twos 549755813888) e in
     rw (← bits, sym c.is_raw.ensures ∙ c.if-is_raw.false)
