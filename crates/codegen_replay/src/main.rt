@@ -15,29 +15,15 @@ const WORDS: usize = 2054;
 const SLOTS: usize = 65;
 
 fn dest_of(d: u64) -> Option<u64> {
-    if d == 0 {
-        return None;
-    }
-    Some(d - 1)
+    d.checked_sub(1)
 }
 
-fn write_answer<W: Write>(output: &mut W, c: Result<Compiled, Fault>) -> io::Result<()> {
-    match c {
-        Ok(Compiled { words, slots, register, frame }) => {
-            replay_io::write_word(output, 0)?;
-            replay_io::write_word(output, words as u64)?;
-            replay_io::write_word(output, slots as u64)?;
-            replay_io::write_word(output, register as u64)?;
-            replay_io::write_word(output, frame as u64)
-        }
-        Err(n) => {
-            replay_io::write_word(output, n as u64)?;
-            replay_io::write_word(output, 0)?;
-            replay_io::write_word(output, 0)?;
-            replay_io::write_word(output, 0)?;
-            replay_io::write_word(output, 0)
-        }
-    }
+fn write_answer<W: Write>(output: &mut W, answer: Result<Compiled, Fault>) -> io::Result<()> {
+    let words = match answer {
+        Ok(c) => [0, c.words as u64, c.slots as u64, c.register as u64, c.frame as u64],
+        Err(fault) => [fault.number() as u64, 0, 0, 0, 0],
+    };
+    replay_io::write_words(output, &words)
 }
 
 fn answer<W: Write>(
