@@ -35,6 +35,10 @@ module _ (ws : List ℕ) (params locals : ℕ) where
 
 pub ruleset checked = (checked-root, checked-layout, checked-dest)
 
+-- a list for every accepted table
+pub few-enough : (ws : List ℕ) (params locals : ℕ) (dest : Option ℕ) → check_of ws params locals dest ≡ Ok tt → node_count ws ≤ max_nodes
+few-enough ws params locals dest h = (accepted-table ws params locals dest h).few
+
 -- ---- what is left behind is what the definition says
 
 pub lengths : {q : Result Compiled Fault} {g : Res (ℕ × State)} {c k p : List ℕ} {lc lc' lk lk' lp lp' : ℕ} → lc ≡ lc' → lk ≡ lk' → lp ≡ lp' → Compiles q g c k p lc lk lp → Compiles q g c k p lc' lk' lp'
@@ -81,10 +85,6 @@ module _ (ws : List ℕ) (params locals : ℕ) (dest : Option ℕ) (cap slot_cap
       Compiles q (generated (tree ws (node_count ws - 1)) dest (params + locals) max_nodes cap slot_cap) c k p lc lk lp
   enough-places places h few m = compiles-by (enough ws params locals dest places cap slot_cap h few) m
 
-  pub places-for-all : (places : ℕ) → check_of ws params locals dest ≡ Ok tt → max_nodes ≤ 2 * places → Compiles q (generated (tree ws (node_count ws - 1)) dest (params + locals) places cap slot_cap) c k p lc lk lp →
-      Compiles q (generated (tree ws (node_count ws - 1)) dest (params + locals) max_nodes cap slot_cap) c k p lc lk lp
-  places-for-all places h all = let a = (accepted-table ws params locals dest h).few in enough-places places h (omega arith)
-
 -- `listed`: the list grows at each call, and the one that is taken is for at least as many nodes as there are
 pub longer : {t most : ℕ} → 32768 - most ≡ t → 0 < most → most ≤ 4096 → 32768 - 8 * most < t
 longer e h k = omega arith
@@ -92,33 +92,16 @@ longer e h k = omega arith
 pub listed-for : {n most k : ℕ} → n ≤ most → most ≤ k → n ≤ k
 listed-for h k = omega arith
 
--- ---- the check first
+-- ---- the check first: the ways out of an entry, each as the definition says
 
-module _ (ws : List ℕ) (params locals : ℕ) (dest : Option ℕ) (room cap slot_cap : ℕ) {f : Fault} (check : f ≡ check_of ws params locals dest) where
-  pub check-refused : (f ≡ Ok tt → ⊥) → fail f ≡ compile_of ws params locals dest room cap slot_cap
+module _ (ws : List ℕ) (params locals : ℕ) (dest : Option ℕ) (room cap slot_cap : ℕ) {q : Result Compiled Fault} {c k p : List ℕ} {lc lk lp : ℕ} where
+  pub out-refused : {f : Fault} → Err f ≡ check_of ws params locals dest → Compiles q (fail f) c k p lc lk lp → Compiles q (compile_of ws params locals dest room cap slot_cap) c k p lc lk lp
   unfolding compile_of
-  check-refused h = by f h ∙ ap (λ (n : Fault). accepted n (generated (tree ws (node_count ws - 1)) dest (params + locals) room cap slot_cap)) check
-    where
-      by : (n : Fault) → (n ≡ 0 → ⊥) → fail n ≡ accepted n (generated (tree ws (node_count ws - 1)) dest (params + locals) room cap slot_cap)
-      by zero k = absurd (k refl)
-      by (suc n) k = refl
+  out-refused e h = rw (← e) h
 
-  pub check-passed : f ≡ Ok tt → generated (tree ws (node_count ws - 1)) dest (params + locals) room cap slot_cap ≡ compile_of ws params locals dest room cap slot_cap
+  pub out-passed : Ok tt ≡ check_of ws params locals dest → Compiles q (generated (tree ws (node_count ws - 1)) dest (params + locals) room cap slot_cap) c k p lc lk lp →
+      Compiles q (compile_of ws params locals dest room cap slot_cap) c k p lc lk lp
   unfolding compile_of
-  check-passed h = ap (λ (n : ℕ). accepted n (generated (tree ws (node_count ws - 1)) dest (params + locals) room cap slot_cap)) (sym h ∙ check)
-
--- the ways out of an entry, each as the definition says: refused by the check, or with what is generated
-module _ (ws : List ℕ) (params locals : ℕ) (dest : Option ℕ) {f : Fault} (check : f ≡ check_of ws params locals dest) (cap slot_cap : ℕ) {lc lk lp : ℕ} {q : Result Compiled Fault} {c k p : List ℕ} where
-  pub out-refused : (room : Fault) → (f ≡ 0 → ⊥) → Compiles q (fail f) c k p lc lk lp → Compiles q (compile_of ws params locals dest room cap slot_cap) c k p lc lk lp
-  out-refused room h = compiles-by (check-refused ws params locals dest room cap slot_cap check h)
-
-  pub out-passed : (room : ℕ) → f ≡ 0 → Compiles q (generated (tree ws (node_count ws - 1)) dest (params + locals) room cap slot_cap) c k p lc lk lp → Compiles q (compile_of ws params locals dest room cap slot_cap) c k p lc lk lp
-  out-passed room h = compiles-by (check-passed ws params locals dest room cap slot_cap check h)
+  out-passed e h = rw (← e) h
 
 pub ruleset outs = (out-refused, out-passed)
-
--- zeros from the first place on
-pub all-zeroed : (l : List ℕ) {now : List ℕ} {n : ℕ} → now ≡ zeroed 0 l → length l ≡ n → now ≡ replicate {A = ℕ} n 0
-all-zeroed l {now} {n} e h =
-    let z : length l - 0 ≡ n = omega arith in
-    e ∙ ap (λ (k : ℕ). replicate {A = ℕ} k 0) z

@@ -1,11 +1,11 @@
 -- What compiling answers, and the final contents of every lent buffer, by what the generator made or refused (01, "Numbers a caller can get back").
-use Rattle.faults.specs.declared.Fault.{Fault}
 use Rattle.std.specs.Prelude.{◌≡◌, List, [], ◌++◌, map, ℕ, ◌-◌, length, replicate, Result, Ok, Err}
+use Rattle.faults.specs.declared.Fault.{Fault}
 use Rattle.value.specs.Value.{kind_of, payload_of}
 use Rattle.emit.specs.State.{Res, done, fail, State}
 use Rattle.compile.specs.declared.buffers.Compiled.{Compiled}
 
--- the counts of words and slots, the register and the frame; or the number of a refusal
+-- the counts of words and slots, the register and the frame; or the fault of a refusal
 abbrev pub answered : Res (ℕ × State) → Result Compiled Fault
 answered (done x) = Ok (record { words = length x.1.words; slots = length x.1.slots; register = x.0; frame = x.1.frame })
 answered (fail n) = Err n

@@ -1,5 +1,6 @@
--- What compiling a node table makes, or the number of its refusal. What is answered and left in the lent buffers is in Buffers.
-use Rattle.std.specs.Prelude.{List, [], ℕ, zero, suc, ◌+◌, ◌-◌, Option, Some, None}
+-- What compiling a node table makes, or the fault of its refusal. What is answered and left in the lent buffers is in Buffers.
+use Rattle.std.specs.Prelude.{List, [], ℕ, ◌+◌, ◌-◌, Option, Some, None, Ok, Err}
+use Rattle.faults.specs.Faults.{Checked}
 use Rattle.table.specs.Table.{node_count, temp_base_of, check_of}
 use Rattle.table.specs.Tree.{Tree, tree}
 use Rattle.emit.specs.State.{Res, fail, State}
@@ -23,9 +24,9 @@ unfoldable pub generated : Tree → Option ℕ → ℕ → ℕ → ℕ → ℕ �
 generated t dest base room cap slot_cap = root_d (gen t).value (dst_of dest) room (start cap slot_cap (temp_base_of base))
 
 -- the check first, then the first failure in emission order
-abbrev pub accepted : ℕ → Res (ℕ × State) → Res (ℕ × State)
-accepted zero m = m
-accepted (suc n) m = fail (suc n)
+abbrev pub accepted : Checked → Res (ℕ × State) → Res (ℕ × State)
+accepted (Ok t) m = m
+accepted (Err f) m = fail f
 
 -- compiling with a jump list of a given room, and lent room for words, and for constants in two lists of which the shorter counts
 unfoldable pub compile_of : List ℕ → ℕ → ℕ → Option ℕ → ℕ → ℕ → ℕ → Res (ℕ × State)

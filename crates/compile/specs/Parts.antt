@@ -1,6 +1,6 @@
 -- Plumbing: what the contracts of the routines inside `compile` ask and say. The meaning is in Compile and Buffers.
-use Rattle.faults.specs.declared.Fault.{Fault}
 use Rattle.std.specs.Prelude.{List, ◌++◌, ℕ, ◌+◌, ◌-◌, ◌≤◌, min, length, take, replicate, Option, Some, None, Result}
+use Rattle.faults.specs.declared.Fault.{Fault}
 use Rattle.faults.specs.Limits.{max_nodes, max_registers}
 use Rattle.table.specs.Table.{node_count}
 use Rattle.table.specs.Nodes.{Node}

@@ -4,7 +4,7 @@
 
 pub mod buffers;
 
-ghost use Rattle.std.specs.Prelude.{◌≡◌, ℕ, ◌+◌, ◌-◌, ◌<◌, ◌≤◌, min, length, replicate};
+ghost use Rattle.std.specs.Prelude.{◌≡◌, ℕ, ◌+◌, ◌-◌, ◌*◌, ◌<◌, ◌≤◌, min, length, replicate, Ok};
 ghost use Rattle.faults.specs.Limits.{max_nodes, max_registers};
 ghost use Rattle.table.specs.Table.{node_count, temp_base_of, check_of};
 ghost use Rattle.table.specs.Tree.{tree};
@@ -15,7 +15,7 @@ ghost use Rattle.compile.specs.Compile.{dst_of, root_d, start, generated, compil
 ghost use Rattle.compile.specs.Parts.{Root, IsRegister, Leaves};
 
 use faults::Fault;
-use crate::buffers::{Compiled, finish, refuse, zero_from};
+use crate::buffers::{Compiled, finish, refuse};
 use codegen::rules::{gen_code_inner, gen_into};
 use emit::state::St;
 
@@ -24,10 +24,7 @@ fn dst_of(dest: Option<u64>) -> Option<u16>
     requires { IsRegister dest }
     ensures { result ≡ dst_of dest }
 {
-    match dest {
-        None => None,
-        Some(r) => Some(r as u16),
-    }
+    dest.map(|r| r as u16)
 }
 
 // The temporaries are placed above the variables, and never at register 0: the Rust reserves it, so that a function always makes the value stack grow
@@ -109,7 +106,16 @@ const SOME: usize = 512;
 
 const MANY: usize = 4096;
 
-fn with_few(
+const PLACES_FOR_FEW: usize = FEW / 2;
+
+const PLACES_FOR_SOME: usize = SOME / 2;
+
+const PLACES_FOR_MANY: usize = MANY / 2;
+
+const PLACES_FOR_ALL: usize = faults::MAX_NODES / 2;
+
+// A checked table, with a jump list of so many places, which does not run out.
+fn with<const PLACES: usize>(
     nodes: &[u64],
     params: u64,
     locals: u64,
@@ -119,70 +125,12 @@ fn with_few(
     payloads: &mut [u64],
 ) -> Result<Compiled, Fault>
     requires dest_value { check_of nodes.now params locals dest ≡ Ok tt }
-    requires nodes_bound { node_count nodes.now ≤ 64 }
+    requires nodes_bound { node_count nodes.now ≤ 2 * PLACES }
+    requires places_bound { PLACES ≤ 32768 }
     ensures { Leaves result nodes.now params locals dest code.new kinds.new payloads.new
         (length code.old) (length kinds.old) (length payloads.old) }
 {
-    let mut jumps = [0u64; FEW / 2];
-    generate(
-        nodes, params, locals, dest, code, kinds, payloads, &mut jumps,
-    )
-}
-
-fn with_some(
-    nodes: &[u64],
-    params: u64,
-    locals: u64,
-    dest: Option<u64>,
-    code: &mut [u64],
-    kinds: &mut [u8],
-    payloads: &mut [u64],
-) -> Result<Compiled, Fault>
-    requires dest_value { check_of nodes.now params locals dest ≡ Ok tt }
-    requires nodes_bound { node_count nodes.now ≤ 512 }
-    ensures { Leaves result nodes.now params locals dest code.new kinds.new payloads.new
-        (length code.old) (length kinds.old) (length payloads.old) }
-{
-    let mut jumps = [0u64; SOME / 2];
-    generate(
-        nodes, params, locals, dest, code, kinds, payloads, &mut jumps,
-    )
-}
-
-fn with_many(
-    nodes: &[u64],
-    params: u64,
-    locals: u64,
-    dest: Option<u64>,
-    code: &mut [u64],
-    kinds: &mut [u8],
-    payloads: &mut [u64],
-) -> Result<Compiled, Fault>
-    requires dest_value { check_of nodes.now params locals dest ≡ Ok tt }
-    requires nodes_bound { node_count nodes.now ≤ 4096 }
-    ensures { Leaves result nodes.now params locals dest code.new kinds.new payloads.new
-        (length code.old) (length kinds.old) (length payloads.old) }
-{
-    let mut jumps = [0u64; MANY / 2];
-    generate(
-        nodes, params, locals, dest, code, kinds, payloads, &mut jumps,
-    )
-}
-
-fn with_all(
-    nodes: &[u64],
-    params: u64,
-    locals: u64,
-    dest: Option<u64>,
-    code: &mut [u64],
-    kinds: &mut [u8],
-    payloads: &mut [u64],
-) -> Result<Compiled, Fault>
-    requires { check_of nodes.now params locals dest ≡ Ok tt }
-    ensures { Leaves result nodes.now params locals dest code.new kinds.new payloads.new
-        (length code.old) (length kinds.old) (length payloads.old) }
-{
-    let mut jumps = [0u64; faults::MAX_NODES / 2];
+    let mut jumps = [0u64; PLACES];
     generate(
         nodes, params, locals, dest, code, kinds, payloads, &mut jumps,
     )
@@ -206,18 +154,18 @@ fn listed(
         (length code.old) (length kinds.old) (length payloads.old) }
 {
     if MANY < most {
-        return with_all(nodes, params, locals, dest, code, kinds, payloads);
+        return with::<PLACES_FOR_ALL>(nodes, params, locals, dest, code, kinds, payloads);
     }
     if most < nodes.len() / 4 {
         return listed(8 * most, nodes, params, locals, dest, code, kinds, payloads);
     }
     if most <= FEW {
-        return with_few(nodes, params, locals, dest, code, kinds, payloads);
+        return with::<PLACES_FOR_FEW>(nodes, params, locals, dest, code, kinds, payloads);
     }
     if most <= SOME {
-        return with_some(nodes, params, locals, dest, code, kinds, payloads);
+        return with::<PLACES_FOR_SOME>(nodes, params, locals, dest, code, kinds, payloads);
     }
-    with_many(nodes, params, locals, dest, code, kinds, payloads)
+    with::<PLACES_FOR_MANY>(nodes, params, locals, dest, code, kinds, payloads)
 }
 
 // Compiles a node table, with a jump list of its own that has room for every accepted table.
@@ -236,14 +184,13 @@ pub fn compile(
         code.new kinds.new payloads.new
         (length code.old) (length kinds.old) (length payloads.old) }
 {
-    let f = table::check::check(nodes, params, locals, dest);
-    if f != faults::NONE {
-        return refuse(f, code, kinds, payloads);
+    match table::check::check(nodes, params, locals, dest) {
+        Ok(()) => listed(FEW, nodes, params, locals, dest, code, kinds, payloads),
+        Err(f) => refuse(f, code, kinds, payloads),
     }
-    listed(FEW, nodes, params, locals, dest, code, kinds, payloads)
 }
 
-// The same with a jump list of the caller's, which is left zero. Refuses with 7 where the list runs out.
+// The same with a jump list of the caller's, which is left zero. Refuses with `NoRoom` where the list runs out.
 pub fn compile_with(
     nodes: &[u64],
     params: u64,
@@ -261,12 +208,10 @@ pub fn compile_with(
         (length code.old) (length kinds.old) (length payloads.old) }
     ensures jumps_after { jumps.new ≡ replicate {A = ℕ} (length jumps.old) 0 }
 {
-    let f = table::check::check(nodes, params, locals, dest);
-    if f != faults::NONE {
-        zero_from(jumps, 0);
-        return refuse(f, code, kinds, payloads);
-    }
-    let r = generate(nodes, params, locals, dest, code, kinds, payloads, jumps);
-    zero_from(jumps, 0);
-    r
+    let made = match table::check::check(nodes, params, locals, dest) {
+        Ok(()) => generate(nodes, params, locals, dest, code, kinds, payloads, jumps),
+        Err(f) => refuse(f, code, kinds, payloads),
+    };
+    jumps.fill(0);
+    made
 }

@@ -1,4 +1,4 @@
--- Zeros after a place, and what is left behind.
+-- What is left behind: zeros after a place.
 use Rattle.std.specs.Prelude.{Ok}
 use mathlib.Core.Path.{◌≡◌, refl, sym, ap, ◌∙◌}
 use mathlib.Core.List.{List, ◌++◌, append_assoc, append-nil}
@@ -13,48 +13,6 @@ use Rattle.emit.specs.Read.{bufs, st_of, Fit}
 use Rattle.emit.proofs.ConstLaws.{slots-are}
 use Rattle.compile.specs.Buffers.{padded, Compiles}
 use Rattle.compile.specs.Parts.{zeroed}
-
--- ---- zeros from a place on: k places are done
-
-pub record Zeroing (old now : List ℕ) (from k : ℕ) : Type 0 where
-  pub low : from ≤ k
-  pub high : k ≤ length old
-  pub len : length now ≡ length old
-  pub front : take k now ≡ take from old ++ replicate {A = ℕ} (k - from) 0
-
-pub zeroing-start : (old : List ℕ) {from : ℕ} → from ≤ length old → Zeroing old old from from
-zeroing-start old {from} h =
-    let e : from - from ≡ 0 = omega arith in
-    record { low = omega arith; high = h; len = refl; front = rw e (sym (append-nil (take from old))) }
-
-pub zeroing-more : {old now : List ℕ} {from k : ℕ} → Zeroing old now from k → k < length now → Zeroing old (set now k 0) from (k + 1)
-zeroing-more {old} {now} {from} {k} z h =
-    let a = z.low in
-    let b = z.len in
-    let e : k + 1 - from ≡ k - from + 1 = omega arith in
-    record {
-      low = omega arith;
-      high = omega arith;
-      len = length-set now k 0 ∙ b;
-      front = rw (add-one k, take-suc-set now k 0 h, z.front, append_assoc, ← add-one k, e, ← replicate-append-replicate {A = ℕ} (k - from) 1 0);
-    }
-
-pub zeroing-done : {old now : List ℕ} {from k : ℕ} → Zeroing old now from k → length now ≤ k → now ≡ zeroed from old
-zeroing-done {old} {now} {from} {k} z h =
-    let a = z.high in
-    let b = z.len in
-    let q : k ≡ length old = omega arith in
-    sym (take_all k now h) ∙ z.front ∙ ap (λ (m : ℕ). take from old ++ replicate {A = ℕ} (m - from) 0) q
-
-pub zeroing-less : {old now : List ℕ} {from k : ℕ} → Zeroing old now from k → k < length now → length old - (k + 1) < length old - k
-zeroing-less z h = let b = z.len in omega arith
-
-pub zeroing-len : {old now : List ℕ} {from k : ℕ} → Zeroing old now from k → length now ≡ length old
-zeroing-len z = z.len
-
-pub ruleset zeroings = (zeroing-start, zeroing-more, zeroing-less, zeroing-len, zeroing-done)
-
--- ---- what is left behind
 
 -- zeros after n places are zeros after those places' list
 padded-is : (n : ℕ) (old : List ℕ) {now xs : List ℕ} {m : ℕ} → now ≡ zeroed n old → take n old ≡ xs → n ≤ length old → length old ≡ m → now ≡ padded xs m

@@ -5,18 +5,17 @@ use borrow.Author.Rules.{rules}
 use Rattle.compile.proofs.generate.Goals as goal
 
 pub finish-requires : goal.finish-requires
-finish-requires c =
-    kept c.in-Got.is c.root-x.ensures
+finish-requires c = kept c.in-Ok.is c.root-x.ensures
 
-pub returns-in-Got : goal.returns-in-Got
-returns-in-Got c =
+pub returns-in-Ok : goal.returns-in-Ok
+returns-in-Ok c =
     let says = says-by (root-generated _ c.args.dest _ _ _ _ c.dst_of.ensures c.temp_base.ensures) c.root-x.ensures in
-    lengths c.root-x.auto.code c.root-x.auto.kinds c.root-x.auto.payloads (generated-done says c.in-Got.is c.finish.ensures)
+    lengths c.root-x.auto.code c.root-x.auto.kinds c.root-x.auto.payloads (generated-done says c.in-Ok.is c.finish.ensures)
 
-pub returns-in-No : goal.returns-in-No
-returns-in-No c =
+pub returns-in-Err : goal.returns-in-Err
+returns-in-Err c =
     let says = says-by (root-generated _ c.args.dest _ _ _ _ c.dst_of.ensures c.temp_base.ensures) c.root-x.ensures in
-    lengths c.root-x.auto.code c.root-x.auto.kinds c.root-x.auto.payloads (generated-refused says c.in-No.is c.refuse.ensures)
+    lengths c.root-x.auto.code c.root-x.auto.kinds c.root-x.auto.payloads (generated-refused says c.in-Err.is c.refuse.ensures)
 
 pub dst_of-requires : goal.dst_of-requires
 dst_of-requires c = search (checked, rules)

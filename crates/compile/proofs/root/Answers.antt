@@ -9,8 +9,8 @@ gen_code_inner-requires c = search (roots, rules)
 pub gen_into-requires : goal.gen_into-requires
 gen_into-requires c = search (roots, rules)
 
-pub returns-in-Any : goal.returns-in-Any
-returns-in-Any c = search (roots, rules)
+pub returns-in-None : goal.returns-in-None
+returns-in-None c = search (roots, rules)
 
-pub returns-in-To : goal.returns-in-To
-returns-in-To c = search (roots, rules)
+pub returns-in-Some : goal.returns-in-Some
+returns-in-Some c = search (roots, rules)
