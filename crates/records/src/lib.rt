@@ -2,17 +2,17 @@
 // routines do the rest, with the same answers. Records that are too many, or too many for the words lent, are refused before a word is written.
 #![tactic(auto)]
 
-mod prefix;
-
 ghost use Rattle.std.specs.Prelude.{◌≡◌, length};
 ghost use Rattle.value.specs.Answer.{result_of};
 ghost use Rattle.compile.specs.Buffers.{Compiles};
-ghost use Rattle.records.specs.Records.{flattened, check_nodes, evaluate_nodes, compile_nodes};
-ghost use Rattle.records.specs.Copy.{copied_of, put};
+ghost use Rattle.records.specs.Records.{room_fault, words_of, flattened, check_nodes, evaluate_nodes, compile_nodes};
 
 use faults::Fault;
 use value::Value;
-use compile::buffers::Compiled;
+use compile::buffers::{Compiled, refuse};
+use compile::compile;
+use eval::evaluate;
+use table::check::check;
 
 // A node of a table: the four words of document 01, by name.
 #[derive(Clone, Copy)]
@@ -23,52 +23,57 @@ pub struct Node {
     pub depth: u64,
 }
 
-// How many records are copied: all, or none where they are refused.
-fn copied(nodes: usize, words: usize) -> usize
-    ensures { result ≡ copied_of nodes words }
-{
-    if crate::prefix::room_fault(nodes, words) != faults::NONE {
-        return 0;
-    }
-    nodes
-}
-
-// The four words of record i, where there is room for them.
-fn put_node(words: &mut [u64], i: usize, d: Node)
-    ensures { words.new ≡ put words.old i d }
-{
-    if i < words.len() / 4 {
-        words[4 * i] = d.kind;
-        words[4 * i + 1] = d.payload;
-        words[4 * i + 2] = d.first;
-        words[4 * i + 3] = d.depth;
+impl Node {
+    fn words(self) -> [u64; 4]
+        ensures { result ≡ words_of self }
+    {
+        [self.kind, self.payload, self.first, self.depth]
     }
 }
 
-// Copies the records into the words, or leaves the words as they are.
-fn flatten(nodes: &[Node], words: &mut [u64])
-    ensures { words.new ≡ flattened nodes.now words.old }
+// Of so many records into so many words: whether they are too many for any table, or the words have no room for them.
+fn room_fault(nodes: usize, words: usize) -> Result<(), Fault>
+    ensures { result ≡ room_fault nodes words }
 {
-    let n = copied(nodes.len(), words.len());
-    let mut i = 0;
-    while i < n {
-        put_node(words, i, nodes[i]);
-        i += 1;
+    if faults::MAX_NODES < nodes {
+        return Err(Fault::BadShape);
     }
+    if words / 4 < nodes {
+        return Err(Fault::NoRoom);
+    }
+    Ok(())
 }
 
-// The number of a table of records with its layout and its destination: what `table::check::check` gives for the same nodes as words. The caller
-// lends room for four words a record; 7 where that is too little.
-pub fn check_nodes(nodes: &[Node], words: &mut [u64], params: u64, locals: u64, dest: Option<u64>) -> u8
+// Copies the records into the words, or refuses them and leaves the words as they are.
+fn flatten(nodes: &[Node], words: &mut [u64]) -> Result<(), Fault>
+    ensures answer { result ≡ room_fault (length nodes.now) (length words.old) }
+    ensures words { words.new ≡ flattened nodes.now words.old }
+{
+    room_fault(nodes.len(), words.len())?;
+    for (i, node) in nodes.iter().enumerate() {
+        words[4 * i..4 * i + 4].copy_from_slice(&node.words());
+    }
+    Ok(())
+}
+
+// The check of a table of records with its layout and its destination: what `table::check::check` answers for the same nodes as words. The caller
+// lends room for four words a record; `NoRoom` where that is too little.
+pub fn check_nodes(
+    nodes: &[Node],
+    words: &mut [u64],
+    params: u64,
+    locals: u64,
+    dest: Option<u64>,
+) -> Result<(), Fault>
     ensures { (result ≡ check_nodes nodes.now (length words.old) params locals dest)
         × (words.new ≡ flattened nodes.now words.old) }
 {
-    flatten(nodes, words);
-    crate::prefix::check_prefix(words, nodes.len(), params, locals, dest)
+    flatten(nodes, words)?;
+    check(&words[..4 * nodes.len()], params, locals, dest)
 }
 
 // The answer of a table of records on the values of its parameters and locals: what `eval::evaluate` gives for the same nodes as words.
-// The caller lends room for four words a record; 7 where that is too little.
+// The caller lends room for four words a record; `NoRoom` where that is too little.
 pub fn evaluate_nodes(
     nodes: &[Node],
     words: &mut [u64],
@@ -81,12 +86,12 @@ pub fn evaluate_nodes(
         ≡ evaluate_nodes nodes.now (length words.old) params locals kinds.now payloads.now)
         × (words.new ≡ flattened nodes.now words.old) }
 {
-    flatten(nodes, words);
-    crate::prefix::evaluate_prefix(words, nodes.len(), params, locals, kinds, payloads)
+    flatten(nodes, words)?;
+    evaluate(&words[..4 * nodes.len()], params, locals, kinds, payloads)
 }
 
 // The compile of a table of records: what `compile` answers, and writes, for the same nodes as words. The caller lends room for
-// four words a record; 7 where that is too little.
+// four words a record; `NoRoom` where that is too little.
 pub fn compile_nodes(
     nodes: &[Node],
     words: &mut [u64],
@@ -103,15 +108,8 @@ pub fn compile_nodes(
         (length code.old) (length kinds.old) (length payloads.old))
         × (words.new ≡ flattened nodes.now words.old) }
 {
-    flatten(nodes, words);
-    crate::prefix::compile_prefix(
-        words,
-        nodes.len(),
-        params,
-        locals,
-        dest,
-        code,
-        kinds,
-        payloads,
-    )
+    match flatten(nodes, words) {
+        Ok(()) => compile(&words[..4 * nodes.len()], params, locals, dest, code, kinds, payloads),
+        Err(f) => refuse(f, code, kinds, payloads),
+    }
 }
