@@ -1,7 +1,7 @@
 -- What a call leaves in the caller's result cells: the number of the answer, and 0 in every cell wherever the number is not 0.
-use Rattle.insns.specs.declared.op.Op.{Op}
-use Rattle.faults.specs.declared.Fault.{Fault}
 use Rattle.std.specs.Prelude.{◌≡◌, List, ℕ, zero, suc, min, length, Option, Some, None, Result, Ok, Err}
+use Rattle.faults.specs.declared.Fault.{Fault}
+use Rattle.faults.specs.Numbers.{undecoded, no_fit, number, number_of}
 use Rattle.value.specs.Value.{kind_of, payload_of}
 use Rattle.value.specs.Answer as Answer
 use Rattle.value.specs.Answer.{Answer}
@@ -9,9 +9,9 @@ use Rattle.emit.specs.State.{Res, State}
 use Rattle.compile.specs.Compile.{compile_of}
 use Rattle.compile.specs.Buffers.{answered, padded, words_of, kinds_of, payloads_of}
 use Rattle.compile.specs.declared.buffers.Compiled.{Compiled}
-use Rattle.insns.specs.Fields.{made_number}
+use Rattle.machine.specs.Run.{Out, out}
 use Rattle.insns.specs.declared.Insn.{Insn}
-use Rattle.decode.specs.Decode.{decoded_number}
+use Rattle.insns.specs.declared.op.Op.{Op}
 use Rattle.operands.specs.OfOp.{plain, plain_op}
 use Rattle.operands.specs.declared.of_op.PlainOp.{PlainOp}
 use Rattle.vosemaqe.specs.declared.results.Report.{Report}
@@ -30,8 +30,8 @@ abbrev pub report : ℕ → ℕ → ℕ → ℕ → ℕ → Report
 report n w s r f = record { number = n; words = w; slots = s; register = r; frame = f }
 
 abbrev pub report_of : Result Compiled Fault → Report
-report_of (Ok (record { words = w; slots = s; register = r; frame = f })) = report 0 w s r f
-report_of (Err n) = report n 0 0 0 0
+report_of (Ok c) = report 0 c.words c.slots c.register c.frame
+report_of (Err f) = report (number f) 0 0 0 0
 
 -- the cells and the lent buffers, c words, k kinds and p payloads of them, as the call leaves them
 pub record Reported (r : Report) (m : Res (ℕ × State)) (code kinds payloads : List ℕ) (c k p : ℕ) : Type 0 where
@@ -53,28 +53,30 @@ evaluated n k p = record { number = n; kind = k; payload = p }
 
 abbrev pub evaluated_of : Answer → Evaluated
 evaluated_of (Answer.is v) = evaluated 0 (kind_of v) (payload_of v)
-evaluated_of (Answer.fault n) = evaluated n 0 0
+evaluated_of (Answer.fault f) = evaluated (number f) 0 0
+
+-- ---- running: number, steps, position, and the registers' kinds and payloads
+
+pub data Ended : Type 0 where
+  ended : ℕ → ℕ → ℕ → List ℕ → List ℕ → Ended
+
+abbrev pub ended_of : Out → Ended
+ended_of (out r ks ps) = ended (number_of r.end) r.steps r.position ks ps
 
 -- ---- decoding: number, opcode, five operands
-
-abbrev pub plain_in : Option Op → PlainOp
-plain_in (Some i) = plain_op i
-plain_in None = plain 0 0 0 0 0 0
 
 abbrev pub operands : ℕ → PlainOp → Operands
 operands n p = record { number = n; plain = p }
 
 abbrev pub operands_of : Option Op → Operands
-operands_of d = operands (decoded_number d) (plain_in d)
+operands_of (Some i) = operands 0 (plain_op i)
+operands_of None = operands (number undecoded) (plain 0 0 0 0 0 0)
 
 -- ---- encoding: number, word
-
-abbrev pub word_in : Option Insn → ℕ
-word_in (Some w) = w.bits
-word_in None = 0
 
 abbrev pub encoded : ℕ → ℕ → Encoded
 encoded n w = record { number = n; word = w }
 
 abbrev pub encoded_of : Option Insn → Encoded
-encoded_of m = encoded (made_number m) (word_in m)
+encoded_of (Some w) = encoded 0 w.bits
+encoded_of None = encoded (number no_fit) 0

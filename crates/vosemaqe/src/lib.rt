@@ -5,16 +5,28 @@
 mod results;
 
 ghost use Rattle.std.specs.Prelude.{◌≡◌, ℕ, length, replicate};
+ghost use Rattle.faults.specs.Numbers.{number_of};
 ghost use Rattle.faults.specs.Limits.{max_nodes};
 ghost use Rattle.table.specs.Table.{check_of};
 ghost use Rattle.table.specs.Complete.{complete_of};
 ghost use Rattle.eval.specs.Evaluate.{evaluate_of};
-ghost use Rattle.machine.specs.Run.{out, ran, run_of, run_part_of};
+ghost use Rattle.machine.specs.Run.{run_of, run_part_of};
 ghost use Rattle.decode.specs.Decode.{decode_of};
-ghost use Rattle.decode.specs.Patch.{patched_number, patch_of};
+ghost use Rattle.decode.specs.Patch.{patch_of};
 ghost use Rattle.operands.specs.OfOp.{plain};
 ghost use Rattle.operands.specs.Encode.{encode_of};
-ghost use Rattle.vosemaqe.specs.Results.{dest_of, report, CompilesTo, evaluated, evaluated_of, operands, operands_of, encoded, encoded_of};
+ghost use Rattle.vosemaqe.specs.Results.{dest_of, report, CompilesTo, evaluated, evaluated_of, ended, ended_of, operands, operands_of, encoded, encoded_of};
+
+use crate::results::{Encoded, Evaluated, Operands, Report, dest_of};
+use compile::{compile, compile_with};
+use decode::decode;
+use decode::patch::patch;
+use eval::evaluate;
+use faults::number_of;
+use operands::encode::encode;
+use run::{run, run_part};
+use table::check::check;
+use table::complete::complete;
 
 // 10000 * major + 100 * minor + patch: the header's, CHANGELOG's and the Rust crate's too.
 pub const VERSION: u32 = 100;
@@ -32,15 +44,15 @@ pub extern "C" fn vosemaqe_version() -> u32
 pub extern "C" fn vosemaqe_complete(nodes: &mut [u64])
     ensures { nodes.new ≡ complete_of nodes.old }
 {
-    table::complete::complete(nodes);
+    complete(nodes);
 }
 
 // The number of a table with its layout and its destination.
 #[unsafe(no_mangle)]
 pub extern "C" fn vosemaqe_check(nodes: &[u64], params: u64, locals: u64, dest: u64) -> u8
-    ensures { result ≡ check_of nodes.now params locals (dest_of dest) }
+    ensures { result ≡ number_of (check_of nodes.now params locals (dest_of dest)) }
 {
-    table::check::check(nodes, params, locals, crate::results::dest_of(dest))
+    number_of(check(nodes, params, locals, dest_of(dest)))
 }
 
 // Compiles a node table. The jump list is on the stack, with room for the jumps of every accepted table.
@@ -63,16 +75,16 @@ pub extern "C" fn vosemaqe_compile(
         (report result words.new slots.new reg.new frame.new)
         code.new slot_kinds.new slot_payloads.new }
 {
-    let c = compile::compile(
+    let c = compile(
         nodes,
         params,
         locals,
-        crate::results::dest_of(dest),
+        dest_of(dest),
         code,
         slot_kinds,
         slot_payloads,
     );
-    let r = crate::results::report_of(c);
+    let r = Report::from(c);
     *words = r.words;
     *slots = r.slots;
     *reg = r.register;
@@ -102,17 +114,17 @@ pub extern "C" fn vosemaqe_compile_with(
         code.new slot_kinds.new slot_payloads.new }
     ensures jumps_after { jumps.new ≡ replicate {A = ℕ} (length jumps.old) 0 }
 {
-    let c = compile::compile_with(
+    let c = compile_with(
         nodes,
         params,
         locals,
-        crate::results::dest_of(dest),
+        dest_of(dest),
         code,
         slot_kinds,
         slot_payloads,
         jumps,
     );
-    let r = crate::results::report_of(c);
+    let r = Report::from(c);
     *words = r.words;
     *slots = r.slots;
     *reg = r.register;
@@ -134,8 +146,7 @@ pub extern "C" fn vosemaqe_evaluate(
     ensures { evaluated result kind.new payload.new
         ≡ evaluated_of (evaluate_of nodes.now params locals kinds.now payloads.now) }
 {
-    let a = eval::evaluate(nodes, params, locals, kinds, payloads);
-    let r = crate::results::evaluated_of(a);
+    let r = Evaluated::from(evaluate(nodes, params, locals, kinds, payloads));
     *kind = r.kind;
     *payload = r.payload;
     r.number
@@ -154,10 +165,10 @@ pub extern "C" fn vosemaqe_run(
     steps: &mut u64,
     position: &mut u64,
 ) -> u8
-    ensures { out (ran result steps.new position.new) kinds.new payloads.new
-        ≡ run_of words.now slot_kinds.now slot_payloads.now budget start kinds.old payloads.old }
+    ensures { ended result steps.new position.new kinds.new payloads.new
+        ≡ ended_of (run_of words.now slot_kinds.now slot_payloads.now budget start kinds.old payloads.old) }
 {
-    let r = run::run(
+    let r = run(
         words,
         start,
         kinds,
@@ -168,7 +179,7 @@ pub extern "C" fn vosemaqe_run(
     );
     *steps = r.steps;
     *position = r.position as u64;
-    r.number
+    number_of(r.end)
 }
 
 // Runs the words of a store from an entry to an end: several compiled expressions can share one store. A position counts from the entry.
@@ -185,11 +196,11 @@ pub extern "C" fn vosemaqe_run_part(
     steps: &mut u64,
     position: &mut u64,
 ) -> u8
-    ensures { out (ran result steps.new position.new) kinds.new payloads.new
-        ≡ run_part_of store.now entry end slot_kinds.now slot_payloads.now budget
-        kinds.old payloads.old }
+    ensures { ended result steps.new position.new kinds.new payloads.new
+        ≡ ended_of (run_part_of store.now entry end slot_kinds.now slot_payloads.now budget
+        kinds.old payloads.old) }
 {
-    let r = run::run_part(
+    let r = run_part(
         store,
         entry,
         end,
@@ -201,7 +212,7 @@ pub extern "C" fn vosemaqe_run_part(
     );
     *steps = r.steps;
     *position = r.position as u64;
-    r.number
+    number_of(r.end)
 }
 
 // The opcode and the operands of a word.
@@ -218,7 +229,7 @@ pub extern "C" fn vosemaqe_decode(
     ensures { operands result (plain opcode.new a.new b.new c.new d.new e.new)
         ≡ operands_of (decode_of word) }
 {
-    let r = crate::results::operands_of(decode::decode(word));
+    let r = Operands::from(decode(word));
     let p = r.plain;
     *opcode = p.opcode;
     *a = p.a;
@@ -242,7 +253,7 @@ pub extern "C" fn vosemaqe_encode(
 ) -> u8
     ensures { encoded result word.new ≡ encoded_of (encode_of opcode a b c d e) }
 {
-    let r = crate::results::encoded_of(operands::encode::encode(opcode, a, b, c, d, e));
+    let r = Encoded::from(encode(opcode, a, b, c, d, e));
     *word = r.word;
     r.number
 }
@@ -250,9 +261,8 @@ pub extern "C" fn vosemaqe_encode(
 // Aims the branch at a position at a target.
 #[unsafe(no_mangle)]
 pub extern "C" fn vosemaqe_patch(words: &mut [u64], at: usize, target: u64) -> u8
-    ensures { (result ≡ patched_number (patch_of words.old at target).answer)
+    ensures { (result ≡ number_of (patch_of words.old at target).answer)
         × (words.new ≡ (patch_of words.old at target).words) }
 {
-    let p = decode::patch::patch(words, at, target);
-    decode::patch::number_of(p)
+    number_of(patch(words, at, target))
 }

@@ -8,7 +8,7 @@ use insns::Insn;
 use insns::op::Op;
 use value::Value;
 use compile::buffers::Compiled;
-use operands::of_op::PlainOp;
+use operands::of_op::{PlainOp, plain_op};
 
 // The cells of a compile.
 #[derive(Clone, Copy)]
@@ -46,83 +46,88 @@ pub struct Encoded {
 pub fn dest_of(dest: u64) -> Option<u64>
     ensures { result ≡ dest_of dest }
 {
-    if dest == 0 {
-        return None;
-    }
-    Some(dest - 1)
+    dest.checked_sub(1)
 }
 
-pub fn report_of(c: Result<Compiled, Fault>) -> Report
-    ensures { result ≡ report_of c }
-{
-    match c {
-        Ok(Compiled { words: w, slots: s, register: r, frame: f }) => Report {
-            number: faults::NONE,
-            words: w as u64,
-            slots: s as u64,
-            register: r as u64,
-            frame: f as u64,
-        },
-        Err(n) => Report {
-            number: n,
-            words: 0,
-            slots: 0,
-            register: 0,
-            frame: 0,
-        },
-    }
-}
+impl From<Result<Compiled, Fault>> for Report {
+    ghost from_gives = { λ c r. r ≡ report_of c };
 
-pub fn evaluated_of(a: Result<Value, Fault>) -> Evaluated
-    ensures { result ≡ evaluated_of (result_of a) }
-{
-    match a {
-        Ok(v) => Evaluated {
-            number: faults::NONE,
-            kind: value::kind_of(v) as u64,
-            payload: value::payload_of(v),
-        },
-        Err(n) => Evaluated {
-            number: n,
-            kind: 0,
-            payload: 0,
-        },
-    }
-}
-
-pub fn operands_of(d: Option<Op>) -> Operands
-    ensures { result ≡ operands_of d }
-{
-    match d {
-        Some(i) => Operands {
-            number: faults::NONE,
-            plain: operands::of_op::plain_op(i),
-        },
-        None => Operands {
-            number: Fault::Undecoded,
-            plain: PlainOp {
-                opcode: 0,
-                a: 0,
-                b: 0,
-                c: 0,
-                d: 0,
-                e: 0,
+    fn from(c: Result<Compiled, Fault>) -> Report {
+        match c {
+            Ok(made) => Report {
+                number: 0,
+                words: made.words as u64,
+                slots: made.slots as u64,
+                register: u64::from(made.register),
+                frame: u64::from(made.frame),
             },
-        },
+            Err(f) => Report {
+                number: f.number(),
+                words: 0,
+                slots: 0,
+                register: 0,
+                frame: 0,
+            },
+        }
     }
 }
 
-pub fn encoded_of(m: Option<Insn>) -> Encoded
-    ensures { result ≡ encoded_of m }
-{
-    match m {
-        Some(w) => Encoded {
-            number: faults::NONE,
-            word: w.bits,
-        },
-        None => Encoded {
-            number: Fault::NoFit,
-            word: 0,
-        },
+impl From<Result<Value, Fault>> for Evaluated {
+    ghost from_gives = { λ a r. r ≡ evaluated_of (result_of a) };
+
+    fn from(a: Result<Value, Fault>) -> Evaluated {
+        match a {
+            Ok(v) => Evaluated {
+                number: 0,
+                kind: u64::from(value::kind_of(v)),
+                payload: value::payload_of(v),
+            },
+            Err(f) => Evaluated {
+                number: f.number(),
+                kind: 0,
+                payload: 0,
+            },
+        }
+    }
+}
+
+impl From<Option<Op>> for Operands {
+    ghost from_gives = { λ d r. r ≡ operands_of d };
+
+    fn from(d: Option<Op>) -> Operands {
+        match d {
+            Some(i) => Operands {
+                number: 0,
+                plain: plain_op(i),
+            },
+            None => Operands {
+                number: Fault::Undecoded.number(),
+                plain: PlainOp {
+                    opcode: 0,
+                    a: 0,
+                    b: 0,
+                    c: 0,
+                    d: 0,
+                    e: 0,
+                },
+            },
+        }
+    }
+}
+
+impl From<Option<Insn>> for Encoded {
+    ghost from_gives = { λ m r. r ≡ encoded_of m };
+
+    fn from(m: Option<Insn>) -> Encoded {
+        match m {
+            Some(w) => Encoded {
+                number: 0,
+                word: w.bits,
+            },
+            None => Encoded {
+                number: Fault::NoFit.number(),
+                word: 0,
+            },
+        }
     }
 }
