@@ -3,10 +3,9 @@
 
 pub mod side_by_side;
 
-ghost use Rattle.std.specs.Prelude.{◌<◌, ◌^◌, length};
+ghost use Rattle.std.specs.Prelude.{length};
 ghost use Rattle.value.specs.Answer.{result_of};
 ghost use Rattle.machine.specs.Run.{out};
-ghost use Rattle.claim.specs.Claim.{Wide};
 ghost use Rattle.claim.specs.Entry.{Whole};
 
 use faults::Fault;
@@ -17,27 +16,12 @@ use compile::compile;
 use eval::evaluate;
 use machine::run::Ran;
 
-// What compiling answers, what the tree gives, and what a run of the words reports: of a refused table the number, and no step.
+// What compiling answers, what the tree gives, and what a run of the words reports: of a refused table its fault, and no step.
 #[derive(Clone, Copy)]
 pub struct Tried {
     pub compiled: Result<Compiled, Fault>,
     pub tree: Result<Value, Fault>,
     pub ran: Ran,
-}
-
-fn is_wide(x: u64)
-    ensures { x < 2 ^ 64 }
-{}
-
-// Every word of a slice is below 2^64: the logic tells this of a number that is read, and not of a slice. Nothing is computed.
-fn are_wide(xs: &[u64])
-    ensures { Wide xs.now }
-{
-    let mut i = 0;
-    while i < xs.len() {
-        is_wide(xs[i]);
-        i += 1;
-    }
 }
 
 // Compiles a table into lent buffers, evaluates it on the registers' values, and runs its words with those registers and the slots that compiling left.
@@ -59,41 +43,37 @@ pub fn compile_evaluate_and_run(
         result.compiled code.new slot_kinds.new slot_payloads.new
         (result_of result.tree) (out result.ran kinds.new payloads.new) }
 {
-    are_wide(nodes);
-    are_wide(payloads);
     let compiled = compile(nodes, params, locals, dest, code, slot_kinds, slot_payloads);
     match compiled {
-        Ok(Compiled { words, slots, register: reg, frame }) => {
+        Ok(made) => {
             let both = evaluate_and_run(
                 nodes,
                 params,
                 locals,
-                &code[..words],
+                &code[..made.words],
                 slot_kinds,
                 slot_payloads,
                 kinds,
                 payloads,
                 budget,
             );
-            let value = both.tree;
-            let report = both.ran;
             Tried {
                 compiled: compiled,
-                tree: value,
-                ran: report,
+                tree: both.tree,
+                ran: both.ran,
             }
         }
-        Err(n) => {
-            let value = evaluate(nodes, params, locals, kinds, payloads);
-            let report = Ran {
-                number: n,
+        Err(f) => {
+            let tree = evaluate(nodes, params, locals, kinds, payloads);
+            let ran = Ran {
+                end: Err(f),
                 steps: 0,
                 position: 0,
             };
             Tried {
                 compiled: compiled,
-                tree: value,
-                ran: report,
+                tree: tree,
+                ran: ran,
             }
         }
     }
