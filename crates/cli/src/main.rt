@@ -32,7 +32,7 @@ const VALUES: usize = 65535;
 const PATH: usize = 4096;
 
 // How many expressions had a value, were refused, stopped with a fault, could not be read. A file that cannot be read counts with the last.
-#[derive(Clone, Copy)]
+#[derive(Clone, Copy, PartialEq, Eq)]
 struct Totals {
     values: u64,
     refused: u64,
@@ -40,28 +40,13 @@ struct Totals {
     unreadable: u64,
 }
 
-fn more(n: u64) -> u64 {
-    if n < 18446744073709551615 {
-        return n + 1;
-    }
-    n
-}
-
 fn counted(t: Totals, o: Outcome) -> Totals {
     let mut u = t;
     match o {
-        Outcome::Value => {
-            u.values = more(t.values);
-        }
-        Outcome::Refused => {
-            u.refused = more(t.refused);
-        }
-        Outcome::Fault => {
-            u.faults = more(t.faults);
-        }
-        Outcome::Unreadable => {
-            u.unreadable = more(t.unreadable);
-        }
+        Outcome::Value => u.values = t.values.saturating_add(1),
+        Outcome::Refused => u.refused = t.refused.saturating_add(1),
+        Outcome::Fault => u.faults = t.faults.saturating_add(1),
+        Outcome::Unreadable => u.unreadable = t.unreadable.saturating_add(1),
         Outcome::Nothing => {}
     }
     u
@@ -105,31 +90,9 @@ fn texts(rt: &impl Print, name: &[u8], s: &[u8], t: Totals) -> io::Result<Totals
     Ok(sum)
 }
 
-// Whether two totals are the same.
-fn unchanged(a: Totals, b: Totals) -> bool {
-    if a.values != b.values {
-        return false;
-    }
-    if a.refused != b.refused {
-        return false;
-    }
-    if a.faults != b.faults {
-        return false;
-    }
-    a.unreadable == b.unreadable
-}
-
 // Whether a text begins with a byte order mark: that of UTF-8, or one of UTF-16.
 fn is_marked(s: &[u8]) -> bool {
-    if s.len() < 3 {
-        return false;
-    }
-    match s[0] {
-        0xef => s[1] == 0xbb,
-        0xff => s[1] == 0xfe,
-        0xfe => s[1] == 0xff,
-        _ => false,
-    }
+    matches!(s, [0xef, 0xbb, _, ..] | [0xff, 0xfe, _, ..] | [0xfe, 0xff, _, ..])
 }
 
 fn text(rt: &impl Print, name: &[u8], s: &[u8], t: Totals) -> io::Result<Totals> {
@@ -142,7 +105,7 @@ fn text(rt: &impl Print, name: &[u8], s: &[u8], t: Totals) -> io::Result<Totals>
         return Ok(counted(t, Outcome::Unreadable));
     }
     let sum = texts(rt, name, s, t)?;
-    if unchanged(sum, t) {
+    if sum == t {
         say(rt, name)?;
         say(rt, b":1: no expression in this text\n\n")?;
         return Ok(counted(t, Outcome::Unreadable));
@@ -226,10 +189,7 @@ fn read_text(
 }
 
 fn is_dash(name: &[u8]) -> bool {
-    if name.len() == 1 {
-        return name[0] == b'-';
-    }
-    false
+    matches!(name, [b'-'])
 }
 
 // The number of the system's error for a name that it does not take.

@@ -1,6 +1,4 @@
 // An expression that could be read: its words, and the values that the tree and the words give.
-ghost use Rattle.std.specs.Prelude.{◌≤◌};
-
 use faults::Fault;
 use value::Value;
 use crate::list::list_words;
@@ -28,65 +26,50 @@ const WORDS: usize = 4 * NODES;
 
 const SLOTS: usize = NODES;
 
-// n, or the room where that is less.
-fn within(n: usize, room: usize) -> usize
-    ensures { result ≤ room }
-{
-    if n < room {
-        return n;
-    }
-    room
-}
-
 fn dest_of(d: u64) -> Option<u64> {
-    if d == 0 {
-        return None;
-    }
-    Some(d - 1)
+    d.checked_sub(1)
 }
 
-// The meaning of a number that a caller can get back, and the line's end.
-fn say_meaning(rt: &impl Print, n: u8) -> io::Result<()> {
-    if n < 20 {
-        tell_line(
-            rt,
-            b": no number of the table\n\
-              : table empty, not a multiple of 4 words, or over 65536 nodes\n\
-              : unknown kind, non-zero payload, a Float that is not finite, missing child, wrong first or depth, or the last node's first is not 0\n\
-              : depth over 200\n\
-              : Ref or destination not below the base\n\
-              : parameters plus locals, or an allocation, pass 65535 registers\n\
-              : no constant slot left\n\
-              : no room for a word\n\
-              : displacement outside its field\n\
-              : an operand does not fit its field\n\
-              : a word that does not decode",
-            n as u64,
-            none(),
-        )?;
-    } else {
-        tell_line(
-            rt,
-            b": wrong kind of value\n\
-              : integer result outside 64 bits signed\n\
-              : Mod by zero\n\
-              : Int outside -2^53..2^53 meets a Float in Add, Sub or Mul, or stands in Div\n\
-              : shift amount outside 0..63\n\
-              : budget spent\n\
-              : register, slot or taken target out of range\n\
-              : panic word\n\
-              : opcode not run here\n\
-              : ill-formed value lent",
-            (n - 20) as u64,
-            none(),
-        )?;
+// What a fault means.
+fn meaning(f: Fault) -> &'static [u8] {
+    match f {
+        Fault::BadShape => b"table empty, not a multiple of 4 words, or over 65536 nodes",
+        Fault::BadNode => {
+            b"unknown kind, non-zero payload, a Float that is not finite, missing child, wrong first or depth, or the last node's first is not 0"
+        }
+        Fault::TooDeep => b"depth over 200",
+        Fault::NotLocal => b"Ref or destination not below the base",
+        Fault::NoRegister => b"parameters plus locals, or an allocation, pass 65535 registers",
+        Fault::NoSlot => b"no constant slot left",
+        Fault::NoRoom => b"no room for a word",
+        Fault::TooFar => b"displacement outside its field",
+        Fault::NoFit => b"an operand does not fit its field",
+        Fault::Undecoded => b"a word that does not decode",
+        Fault::NotBranch => b"the word is not a branch",
+        Fault::NoWord => b"no word at the branch position",
+        Fault::WrongKind => b"wrong kind of value",
+        Fault::Overflow => b"integer result outside 64 bits signed",
+        Fault::ModByZero => b"Mod by zero",
+        Fault::NotExact => b"Int outside -2^53..2^53 meets a Float in Add, Sub or Mul, or stands in Div",
+        Fault::BadShift => b"shift amount outside 0..63",
+        Fault::BudgetSpent => b"budget spent",
+        Fault::OutOfRange => b"register, slot or taken target out of range",
+        Fault::PanicWord => b"panic word",
+        Fault::NotRun => b"opcode not run here",
+        Fault::IllFormed => b"ill-formed value lent",
     }
+}
+
+// The line's end, with what the fault means.
+fn say_meaning(rt: &impl Print, f: Fault) -> io::Result<()> {
+    say(rt, b": ")?;
+    say(rt, meaning(f))?;
     say(rt, b"\n")
 }
 
-fn say_refused(rt: &impl Print, n: u8) -> io::Result<()> {
-    tell(rt, b"refused with %", one(n as u64))?;
-    say_meaning(rt, n)
+fn say_refused(rt: &impl Print, f: Fault) -> io::Result<()> {
+    tell(rt, b"refused with %", one(u64::from(f.number())))?;
+    say_meaning(rt, f)
 }
 
 fn say_layout(rt: &impl Print, h: Head) -> io::Result<()> {
@@ -142,9 +125,9 @@ fn say_tree(rt: &impl Print, a: Result<Value, Fault>) -> io::Result<bool> {
             say(rt, b"\n")?;
             Ok(true)
         }
-        Err(n) => {
-            tell(rt, b"fault %", one(n as u64))?;
-            say_meaning(rt, n)?;
+        Err(f) => {
+            tell(rt, b"fault %", one(u64::from(f.number())))?;
+            say_meaning(rt, f)?;
             Ok(false)
         }
     }
@@ -158,7 +141,7 @@ fn say_evaluated(
     payloads: &[u64],
     h: Head,
 ) -> io::Result<bool> {
-    let n = within(h.values, kinds.len());
+    let n = h.values.min(kinds.len());
     say(rt, b"values:\n")?;
     list_pairs(rt, b"  r% = ", &kinds[..n], payloads)?;
     say(rt, b"tree:  ")?;
@@ -192,16 +175,6 @@ fn say_register(
     tell(rt, b" in r%", one(register as u64))
 }
 
-fn say_stop(rt: &impl Print, r: Ran) -> io::Result<()> {
-    tell(
-        rt,
-        b"fault % at word %",
-        two(r.number as u64, r.position as u64),
-    )?;
-    say_steps(rt, r.steps)?;
-    say_meaning(rt, r.number)
-}
-
 // Whether the words end with a value.
 fn say_run(
     rt: &impl Print,
@@ -210,43 +183,20 @@ fn say_run(
     payloads: &[u64],
     register: usize,
 ) -> io::Result<bool> {
-    if r.number != 0 {
-        say_stop(rt, r)?;
+    if let Err(f) = r.end {
+        tell(
+            rt,
+            b"fault % at word %",
+            two(u64::from(f.number()), r.position as u64),
+        )?;
+        say_steps(rt, r.steps)?;
+        say_meaning(rt, f)?;
         return Ok(false);
     }
     say_register(rt, kinds, payloads, register)?;
     say_steps(rt, r.steps)?;
     say(rt, b"\n")?;
     Ok(true)
-}
-
-// What compiling gave, as numbers: words, constants, register and frame, or the number of a refusal.
-#[derive(Clone, Copy)]
-struct Out {
-    number: u8,
-    words: usize,
-    slots: usize,
-    register: u16,
-    frame: u16,
-}
-
-fn out_of(c: Result<Compiled, Fault>) -> Out {
-    match c {
-        Ok(Compiled { words, slots, register, frame }) => Out {
-            number: faults::NONE,
-            words: words,
-            slots: slots,
-            register: register,
-            frame: frame,
-        },
-        Err(n) => Out {
-            number: n,
-            words: 0,
-            slots: 0,
-            register: 0,
-            frame: 0,
-        },
-    }
 }
 
 // The words' answer. Registers past the values are Nil before a run.
@@ -257,10 +207,10 @@ fn run(
     slot_payloads: &[u64],
     kinds: &mut [u8],
     payloads: &mut [u64],
-    o: Out,
+    made: Compiled,
     budget: u64,
 ) -> io::Result<bool> {
-    let n = within(o.frame as usize, kinds.len());
+    let n = usize::from(made.frame).min(kinds.len());
     let r = run::run(
         words,
         0,
@@ -270,7 +220,7 @@ fn run(
         slot_payloads,
         budget,
     );
-    say_run(rt, r, kinds, payloads, o.register as usize)
+    say_run(rt, r, kinds, payloads, usize::from(made.register))
 }
 
 // Whether each parameter and local has a value. Without them the words are not run, which is told.
@@ -288,18 +238,17 @@ fn is_ready(rt: &impl Print, h: Head) -> io::Result<bool> {
 }
 
 fn joint(tree: bool, words: bool) -> Outcome {
-    if tree {
-        if words {
-            return Outcome::Value;
-        }
+    if tree && words {
+        Outcome::Value
+    } else {
+        Outcome::Fault
     }
-    Outcome::Fault
 }
 
 // The words that were made, then the answers.
 fn answers(
     rt: &impl Print,
-    o: Out,
+    made: Compiled,
     nodes: &[u64],
     words: &[u64],
     slot_kinds: &[u8],
@@ -308,7 +257,14 @@ fn answers(
     payloads: &mut [u64],
     h: Head,
 ) -> io::Result<Outcome> {
-    list(rt, words, slot_kinds, slot_payloads, o.register, o.frame)?;
+    list(
+        rt,
+        words,
+        slot_kinds,
+        slot_payloads,
+        made.register,
+        made.frame,
+    )?;
     let tree = say_evaluated(rt, nodes, kinds, payloads, h)?;
     if is_ready(rt, h)? {
         let ran = run(
@@ -318,7 +274,7 @@ fn answers(
             slot_payloads,
             kinds,
             payloads,
-            o,
+            made,
             h.budget,
         )?;
         return Ok(joint(tree, ran));
@@ -329,7 +285,7 @@ fn answers(
 // What compiling gave: a refusal, or as many words and constants as there are.
 fn compiled(
     rt: &impl Print,
-    o: Out,
+    c: Result<Compiled, Fault>,
     nodes: &[u64],
     words: &[u64],
     slot_kinds: &[u8],
@@ -338,15 +294,18 @@ fn compiled(
     payloads: &mut [u64],
     h: Head,
 ) -> io::Result<Outcome> {
-    if o.number != faults::NONE {
-        say_refused(rt, o.number)?;
-        return Ok(Outcome::Refused);
-    }
-    let w = within(o.words, words.len());
-    let k = within(o.slots, slot_kinds.len());
+    let made = match c {
+        Ok(made) => made,
+        Err(f) => {
+            say_refused(rt, f)?;
+            return Ok(Outcome::Refused);
+        }
+    };
+    let w = made.words.min(words.len());
+    let k = made.slots.min(slot_kinds.len());
     answers(
         rt,
-        o,
+        made,
         nodes,
         &words[..w],
         &slot_kinds[..k],
@@ -379,7 +338,7 @@ fn compile(
     );
     compiled(
         rt,
-        out_of(c),
+        c,
         nodes,
         &code,
         &slot_kinds,
@@ -390,15 +349,15 @@ fn compile(
     )
 }
 
-// The number of the check of a table that is completed, with the first and depth that were given. One that is refused is completed again.
-fn number_of(s: &[u8], nodes: &mut [u64], h: Head) -> u8 {
+// The check of a table that is completed, with the first and depth that were given. One that is refused is completed again.
+fn check(s: &[u8], nodes: &mut [u64], h: Head) -> Result<(), Fault> {
     table::complete::complete(nodes);
     put_spans(s, nodes);
-    let n = table::check::check(nodes, h.params, locals_of(h), dest_of(h.dest));
-    if n != faults::NONE {
+    let checked = table::check::check(nodes, h.params, locals_of(h), dest_of(h.dest));
+    if checked.is_err() {
         table::complete::complete(nodes);
     }
-    n
+    checked
 }
 
 // Where an expression begins: the second line of a refusal that is about the whole of it.
@@ -408,23 +367,21 @@ fn say_from(rt: &impl Print, name: &[u8], line: u64) -> io::Result<()> {
     say(rt, b"the expression that begins here\n")
 }
 
-// The number of the check, then the node at fault; for 1 and 5, where the expression begins.
+// The fault that the check found, then the node that has it; for 1 and 5, where the expression begins.
 fn refuse(
     rt: &impl Print,
-    n: u8,
+    f: Fault,
     name: &[u8],
     s: &[u8],
     line: u64,
     nodes: &[u64],
     h: Head,
 ) -> io::Result<()> {
-    say_refused(rt, n)?;
-    if Fault::BadNode <= n {
-        if n <= Fault::NotLocal {
-            return say_where(rt, name, nodes, s, line, h);
-        }
+    say_refused(rt, f)?;
+    match f {
+        Fault::BadNode | Fault::TooDeep | Fault::NotLocal => say_where(rt, name, nodes, s, line, h),
+        _ => say_from(rt, name, line),
     }
-    say_from(rt, name, line)
 }
 
 // A table of as many nodes as there are.
@@ -438,9 +395,8 @@ fn show_table(
     payloads: &mut [u64],
     h: Head,
 ) -> io::Result<Outcome> {
-    let n = number_of(s, nodes, h);
-    if n != faults::NONE {
-        refuse(rt, n, name, s, line, nodes, h)?;
+    if let Err(f) = check(s, nodes, h) {
+        refuse(rt, f, name, s, line, nodes, h)?;
         return Ok(Outcome::Refused);
     }
     let o = compile(rt, nodes, kinds, payloads, h)?;
@@ -461,7 +417,7 @@ pub fn show(
     payloads: &mut [u64],
     h: Head,
 ) -> io::Result<Outcome> {
-    let room = within(4 * within(h.nodes, NODES), nodes.len());
+    let room = (4 * h.nodes.min(NODES)).min(nodes.len());
     say_layout(rt, h)?;
     show_table(rt, name, s, line, &mut nodes[..room], kinds, payloads, h)
 }

@@ -36,10 +36,7 @@ fn say_word(rt: &impl Print, l: &[u8], n: usize) -> io::Result<()> {
 
 // The pattern after p, which is that of the next float away from zero.
 fn next(p: u64) -> u64 {
-    if p < 18446744073709551615 {
-        return p + 1;
-    }
-    p
+    p.saturating_add(1)
 }
 
 fn say_between(rt: &impl Print, p: u64) -> io::Result<()> {
