@@ -113,8 +113,8 @@ fn list_word(rt: &impl Print, at: u64, w: u64) -> io::Result<()> {
 
 // Each word on a line of its own.
 pub fn list_words(rt: &impl Print, words: &[u64]) -> io::Result<()> {
-    for i in 0..words.len() {
-        list_word(rt, i as u64, words[i])?;
+    for (at, word) in words.iter().enumerate() {
+        list_word(rt, at as u64, *word)?;
     }
     Ok(())
 }

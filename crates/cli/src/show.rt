@@ -86,12 +86,10 @@ fn say_layout(rt: &impl Print, h: Head) -> io::Result<()> {
 
 // Each pair, after its number: a register that is given a value, or a constant.
 fn list_pairs(rt: &impl Print, before: &[u8], kinds: &[u8], payloads: &[u64]) -> io::Result<()> {
-    for i in 0..kinds.len() {
-        if i < payloads.len() {
-            tell(rt, before, one(i as u64))?;
-            say_value(rt, kinds[i], payloads[i])?;
-            say(rt, b"\n")?;
-        }
+    for (i, (kind, payload)) in kinds.iter().zip(payloads).enumerate() {
+        tell(rt, before, one(i as u64))?;
+        say_value(rt, *kind, *payload)?;
+        say(rt, b"\n")?;
     }
     Ok(())
 }
@@ -167,10 +165,8 @@ fn say_register(
     payloads: &[u64],
     register: usize,
 ) -> io::Result<()> {
-    if register < kinds.len() {
-        if register < payloads.len() {
-            say_value(rt, kinds[register], payloads[register])?;
-        }
+    if let (Some(kind), Some(payload)) = (kinds.get(register), payloads.get(register)) {
+        say_value(rt, *kind, *payload)?;
     }
     tell(rt, b" in r%", one(register as u64))
 }
