@@ -1,11 +1,13 @@
 -- The room for so many records.
 --     many, short, fits     what it is in each case
 --     has_room, not-many    where it is there
-use Rattle.std.specs.Prelude.{Ok, Err}
+use Rattle.std.specs.Prelude.{Result, Ok, Err}
+use Rattle.std.specs.Result.{IsErrAnd}
 use Prim.Native.Nat.{ℕ, ◌*◌, ◌/◌, ◌≤◌, ◌<◌}
-use mathlib.Core.Path.{◌≡◌, refl, sym}
+use mathlib.Core.Path.{◌≡◌, refl, sym, ap}
 use lib.Dec.{ltb}
 use borrow.Author.Tests.{le-ltb, lt-ltb, ltb-false}
+use Rattle.faults.specs.declared.Fault.{Fault}
 use Rattle.faults.specs.Faults.{fault, ◌or_else◌}
 use Rattle.faults.specs.Limits.{max_nodes}
 use Rattle.faults.specs.Numbers.{bad_shape, no_room}
@@ -34,3 +36,8 @@ module _ (n m : ℕ) (e : Ok tt ≡ room_fault n m) where
   pub not-many : n ≤ max_nodes
   unfolding room_fault
   not-many = ltb-false max_nodes n (failed (ltb max_nodes n) bad_shape (none_both _ _ (sym e)).0)
+
+-- what a `?` returns
+pub handed : {X : Type 0} {r : Result X Fault} {f : Fault} → IsErrAnd r (λ e. e ≡ f) → r ≡ Err f
+handed {r = Ok x} h = absurd h
+handed {r = Err e} h = ap Err h
