@@ -104,4 +104,4 @@ module _ (ws : List ℕ) (params locals : ℕ) (dest : Option ℕ) (room cap slo
   unfolding compile_of
   out-passed e h = rw (← e) h
 
-pub ruleset outs = (out-refused, out-passed)
+
