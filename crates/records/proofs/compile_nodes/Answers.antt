@@ -12,8 +12,8 @@ slice_bounds-compile-end c =
     let room : length c.args.nodes.now ≤ length c.args.words.now / 4 = has_room _ _ c.in-Ok.ensures.answer in
     search rules
 
-pub slice_bounds-compile-end-2 : goal.slice_bounds-compile-end-2
-slice_bounds-compile-end-2 c =
+pub slice_bounds-compile-end-in-Ok : goal.slice_bounds-compile-end-in-Ok
+slice_bounds-compile-end-in-Ok c =
     let room : length c.args.nodes.now ≤ length c.args.words.now / 4 = has_room _ _ c.in-Ok.ensures.answer in
     search rules
 
