@@ -5,12 +5,6 @@ use Rattle.table.proofs.check.last_fault.Goals as goal
 
 ruleset laws = (parts, rules)
 
-pub overflow_sub-nodes : goal.overflow_sub-nodes
-overflow_sub-nodes c = search laws
-
-pub first_at-requires : goal.first_at-requires
-first_at-requires c = search laws
-
 pub returns-then-first_at-ne0 : goal.returns-then-first_at-ne0
 returns-then-first_at-ne0 c = search laws
 

@@ -4,6 +4,3 @@ use Rattle.table.proofs.check.node_right.Goals as goal
 
 pub over_right-requires : goal.over_right-requires
 over_right-requires c = search rights
-
-pub returns-then-k-ne-TERNARY : goal.returns-then-k-ne-TERNARY
-returns-then-k-ne-TERNARY c = search rights

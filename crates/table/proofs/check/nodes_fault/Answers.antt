@@ -13,10 +13,6 @@ pub loop-i-init : goal.loop-i-init
 unfolding nodes_fault
 loop-i-init c = (omega arith, refl, last-zero _)
 
-pub node_fault-requires : goal.node_fault-requires
-unfolding nodes_fault
-node_fault-requires c = search laws
-
 pub returns-in_err-node_fault : goal.returns-in_err-node_fault
 unfolding nodes_fault
 returns-in_err-node_fault c =
@@ -25,7 +21,3 @@ returns-in_err-node_fault c =
 pub loop-i-preserved : goal.loop-i-preserved
 unfolding nodes_fault
 loop-i-preserved c = (omega arith, search laws, search laws)
-
-pub returns : goal.returns
-unfolding nodes_fault
-returns c = search laws
