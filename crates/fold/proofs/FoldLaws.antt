@@ -18,7 +18,6 @@ use Rattle.table.specs.Tree.{Unary, minus, not', Arith, bit_and, bit_or, bit_xor
 use Rattle.table.proofs.Arities.{binary-code, cmp-codes}
 use Rattle.table.proofs.Trees.{View, is_leaf, is-unary, is-binary, is-ternary, view, BinaryAt, unary-in, unary-at, binary-in, binary-at}
 use Rattle.insns.specs.declared.op.Arith.{Arith as ImmArith}
-use Rattle.insns.specs.declared.op.Imm16.{Imm16 as Imm16s}
 use Rattle.insns.specs.declared.op.Arith.TheVariants.{Plus, Minus, Times}
 use Rattle.insns.specs.declared.op.Shift.{Shift}
 use Rattle.fold.specs.declared.Tail.{Tail}
@@ -105,8 +104,6 @@ module _ {ws : List ℕ} {i : ℕ} (h : Inner ws i 0) {k : ℕ} (e : k ≡ kind_
     pub shift-lit : {z : ℤ} {r : Option ℕ} → l ≡ Some z → r ≡ amount_of (to_z w64 (of_z w64 z)) → r ≡ shifted_by (tree ws i)
     shift-lit {z} n q = q ∙ ap amount_of (held z (const-small (tree ws j) (sym c ∙ n))) ∙ sym (ap amount_lit n) ∙ shift_from
 
-pub ruleset shifts = (shift-other, shift_none, shift-lit)
-
 -- a node that is shifted by a literal is a right shift
 shifted-kind : {ws : List ℕ} {base i n : ℕ} → Node ws base i → shifted_by (tree ws i) ≡ Some n → kind_at ws i ≡ 12
 shifted-kind {ws} {base} {i} {n} h e = go (eqb (kind_at ws i) 12) refl
@@ -116,20 +113,6 @@ shifted-kind {ws} {base} {i} {n} h e = go (eqb (kind_at ws i) 12) refl
     go false q = never (let p : None ≡ Some n = shift-other (record { base = base; node = h; kind = omega numbers }) refl (eqb-false (kind_at ws i) 12 q) ∙ e in cc)
 
 -- ---- folds
-
-pub mask-plain : {s : Option ℕ} {r : Option (ℕ × ℕ)} {lo len : ℕ} → r ≡ Some (lo, len) → s ≡ None → Some (Tail.Mask lo len) ≡ mask_fold s r
-mask-plain e f = rw (e, f)
-
-pub mask-shift : {s : Option ℕ} {r : Option (ℕ × ℕ)} {k lo len : ℕ} → r ≡ Some (lo, len) → s ≡ Some k → Some (Tail.ShiftMask k lo len) ≡ mask_fold s r
-mask-shift e f = rw (e, f)
-
-pub shift-into : {o : Shift} {b : Option ℕ} {k : ℕ} → b ≡ Some k → Some (Tail.Shift o k) ≡ shift_fold o b
-shift-into e = rw e
-
-pub imm-into : {o : ImmArith} {b : Option Imm16} {n : Imm16s} → b ≡ Some n → Some (Tail.Imm o n) ≡ imm_fold o b
-imm-into e = rw e
-
-pub ruleset intos = (mask-plain, mask-shift, shift-into, imm-into)
 
 abbrev shift_code : Shift → ℕ
 shift_code Shift.Left = 11
@@ -235,8 +218,6 @@ module _ {ws : List ℕ} {i : ℕ} (h : Operator ws i) where
           let u : r ≡ fold_by v.0 (shifted_by (tree ws a)) (to_z w64 (of_z w64 z)) = q v.0 (ap kind_of e ∙ v.1) in
           let w : r ≡ fold_by v.0 (shifted_by (tree ws (child2 ws i))) z = rw (p, held z f) at u in
           w ∙ sym (v.2 ∙ ap (fold_lit v.0 _) n)
-
-pub ruleset operators = (fold-minus, fold-not, fold-none, fold-lit)
 
 -- ---- the operand that a fold leaves
 

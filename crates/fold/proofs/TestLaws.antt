@@ -24,15 +24,6 @@ use Rattle.fold.specs.Nodes.{Comparison, TestIs, pick_of}
 -- ---- the comparison at a node
 
 module _ {ws : List ℕ} {i : ℕ} (h : Comparison ws i) where
-  pub compare-1 : Inner ws i 6
-  compare-1 = record { base = h.base; node = h.node; kind = let l = h.low in omega numbers }
-
-  pub compare-2 : Inner ws i 8
-  compare-2 = record { base = h.base; node = h.node; kind = let l = h.low in omega numbers }
-
-  pub compare-child : {c j : ℕ} → ChildIs ws i c j → Inner ws j 0
-  compare-child d = record { base = h.base; node = (d.of _ h.node).node; kind = omega numbers }
-
   cmp-in : (c : Cmp) × BinaryAt ws h.base i (cmp c)
   cmp-in = let l = h.low in let q = h.high in go (binary-in h.node (omega numbers) (omega numbers))
     where
@@ -71,8 +62,6 @@ module _ {ws : List ℕ} {i : ℕ} (h : Comparison ws i) where
 
       pub compare-both : left ≡ None → TestIs ws i None (pick_of (tree ws i) sense)
       compare-both q = let v = picked left el in v.2 ∙ pair v.0 ∙ ap (λ (x : Option Imm16). compare_pick v.0 (tree ws a) (tree ws b) x None sense) q
-
-pub ruleset compares = (compare-1, compare-2, compare-child, compare-right, compare-left, compare-both)
 
 -- ---- what a branch takes in of any node
 

@@ -230,7 +230,7 @@ stops ws base i (suc n) h k lt =
 pub below_of : (ws : List ℕ) (base i : ℕ) → i ≤ node_count ws → nodes_fault ws base i ≡ Ok tt → Below ws i
 below_of ws base i h e = record { inside = h; low = first-le ws base i e }
 
--- ---- the returns of `node_fault`, which `search node-faults` finds
+-- ---- the returns of `full_fault`
 
 module _ (ws : List ℕ) (base i : ℕ) {k p : ℕ} {f : Checked} (hk : k ≡ kind_at ws i) (hp : p ≡ payload_at ws i) (hf : f ≡ kind_fault k p) where
   kind-part : f ≡ kind_fault (kind_at ws i) (payload_at ws i)
@@ -252,8 +252,6 @@ module _ (ws : List ℕ) (base i : ℕ) {k p : ℕ} {f : Checked} (hk : k ≡ ki
     pub limit-stops : {l : Checked} → g ≡ none → l ≡ limit_fault k p d base → l ≡ node_fault ws base i
     unfolding node_fault
     limit-stops {l} z' h = let q : l ≡ limit_fault (kind_at ws i) (payload_at ws i) (depth_at ws i) base = cc in pass kind-part z (pass span-part z' q)
-
-pub ruleset node-faults = (kind-stops, span-stops, limit-stops)
 
 -- ---- the loop of `children_of`: what is left to cover gives the answer, s; `search turns`
 

@@ -1,19 +1,18 @@
 -- What the tests of a literal have to show: its size, its bits, the literal at a node.
 use Rattle.std.specs.Prelude.{Option, Some, None}
-use Rattle.insns.specs.declared.op.Imm16.{Imm16}
 use mathlib.Core.Path.{◌≡◌, refl, sym, ap, subst, ◌∙◌}
 use mathlib.Core.Bool.{Bool, true, false, cond, ◌&&◌}
 use mathlib.Core.List.{List}
 use Prim.Native.Nat.{ℕ, zero, suc, ◌+◌, ◌-◌, ◌/◌, ◌%◌, ◌<◌, ◌≤◌, ◌^◌}
 use native.Mathlib.Nat.{pow-succ'}
 use native.Mathlib.Omega.{arith}
-use lib.Dec.{T, ltb, eqb}
+use lib.Dec.{T, eqb}
 use lib.Count.{count_trailing_zeros, under}
 use lib.IntN.{ℤ, pos, negsuc, nat_abs}
-use lib.Signed.{mag, le_z, lt_z, non_neg}
-use mir.Syntax.{w8, w16, w64}
-use mir.Val.{Fits, SFits, to_z, of_z}
-use borrow.Author.Tests.{lt-ltb, le-ltb, ltb-true, ltb-false, leb-true, eq-eqb, ne_eqb, le-leb, lt-leb}
+use lib.Signed.{mag, le_z, non_neg}
+use mir.Syntax.{w64}
+use mir.Val.{Fits, to_z, of_z}
+use borrow.Author.Tests.{ltb-true, leb-true, eq-eqb, ne_eqb, le-leb, lt-leb}
 use Rattle.table.specs.Table.{kind_at, payload_at}
 use Rattle.table.specs.Nodes.{Inner}
 use Rattle.table.specs.Tree.{int, Tree, leaf, Kind, leaf_kind, unary_kind, binary_kind, ternary_kind, no_kind, kind_of, tree}
@@ -21,65 +20,15 @@ use Rattle.table.proofs.Arities.{at-kind}
 use Rattle.table.proofs.Trees.{View, is_leaf, is-unary, is-binary, is-ternary, view, leaf-at}
 use Rattle.std.proofs.lemmas.Nat.{shr_le}
 use Rattle.insns.proofs.bits.Sign.{back}
-use Rattle.fold.specs.Literal.{is_fixnum, fixnum, bits, run_at, run_from, bit_run, lit_of, const_of, imm_of, as_imm16, amount_of}
+use Rattle.fold.specs.Literal.{is_fixnum, fixnum, bits, run_at, run_from, bit_run, lit_of, const_of}
 
 never : {X : Type 0} → true ≡ false → X
 never e = absurd (let z : ◌≡◌ {A = ℕ} 0 1 = cc in omega arith)
 
 -- ---- a number of 64 bits is handed on by its pattern
 
-module _ (z : ℤ) (f : mag z < 9223372036854775808) where
-  pub held : to_z w64 (of_z w64 z) ≡ z
-  held = back w64 z f
-
-  pub within-is : (n : ℕ) {m : ℕ} → m ≡ mag (to_z w64 (of_z w64 z)) → ltb m n ≡ ltb (mag z) n
-  within-is n e = rw (e, held)
-
-  pub within_by : (n : ℕ) {t : Bool} → t ≡ ltb (mag (to_z w64 (of_z w64 z))) n → t ≡ ltb (mag z) n
-  within_by n e = rw held at e
-
-  pub imm-fits : {t : Bool} → t ≡ ltb (mag (to_z w64 (of_z w64 z))) 32768 → t ≡ true → Some (record { n = to_z w16 (of_z w16 (to_z w64 (of_z w64 z))) }) ≡ imm_of z
-  imm-fits w h =
-      let q : ltb (mag z) 32768 ≡ true = sym (within_by 32768 w) ∙ h in
-      rw (held, q, back w16 z (ltb-true (mag z) 32768 q))
-
-  pub imm-cast : {t : Bool} → t ≡ ltb (mag (to_z w64 (of_z w64 z))) 32768 → t ≡ true → SFits w16 (to_z w64 (of_z w64 z))
-  imm-cast w h = record { sfits = ltb-true (mag (to_z w64 (of_z w64 z))) 32768 (sym w ∙ h) }
-
-  pub imm-far : {t : Bool} → t ≡ ltb (mag (to_z w64 (of_z w64 z))) 32768 → t ≡ false → None ≡ imm_of z
-  imm-far w h = let q : ltb (mag z) 32768 ≡ false = sym (within_by 32768 w) ∙ h in rw q
-
-  -- a shift's amount
-  pub amount-neg : lt_z (to_z w64 (of_z w64 z)) (pos 0) ≡ true → None ≡ amount_of z
-  amount-neg h = go z (rw held at h)
-    where
-      go : (y : ℤ) → lt_z y (pos 0) ≡ true → None ≡ amount_of y
-      go (pos n) e = absurd (let l : n < 0 = ltb-true n 0 e in omega arith)
-      go (negsuc n) e = refl
-
-  pub amount-far : lt_z (pos 63) (to_z w64 (of_z w64 z)) ≡ true → None ≡ amount_of z
-  amount-far h = go z (rw held at h)
-    where
-      go : (y : ℤ) → lt_z (pos 63) y ≡ true → None ≡ amount_of y
-      go (pos n) e = let l : 63 < n = ltb-true 63 n e in rw (le-ltb n 64 l)
-      go (negsuc n) e = refl
-
-  module _ (low : lt_z (to_z w64 (of_z w64 z)) (pos 0) ≡ false) (high : lt_z (pos 63) (to_z w64 (of_z w64 z)) ≡ false) where
-    pub amount-cast : T (non_neg (to_z w64 (of_z w64 z))) × Fits w8 (nat_abs (to_z w64 (of_z w64 z)))
-    amount-cast = rw held (go z (rw held at low) (rw held at high))
-      where
-        go : (y : ℤ) → lt_z y (pos 0) ≡ false → lt_z (pos 63) y ≡ false → T (non_neg y) × Fits w8 (nat_abs y)
-        go (pos n) e g = (tt, record { fits = omega (arith, ltb-false 63 n g) })
-        go (negsuc n) e g = never e
-
-    pub amount-is : Some (nat_abs (to_z w64 (of_z w64 z))) ≡ amount_of z
-    amount-is = rw held (go z (rw held at low) (rw held at high))
-      where
-        go : (y : ℤ) → lt_z y (pos 0) ≡ false → lt_z (pos 63) y ≡ false → Some (nat_abs y) ≡ amount_of y
-        go (pos n) e g = let l : n ≤ 63 = ltb-false 63 n g in rw (lt-ltb n 64 (omega arith))
-        go (negsuc n) e g = never e
-
-pub ruleset sizes = (within-is, within_by, imm-fits, imm-far, amount-neg, amount-far, amount-is)
+pub held : (z : ℤ) → mag z < 9223372036854775808 → to_z w64 (of_z w64 z) ≡ z
+held z f = back w64 z f
 
 -- ---- the bits that stand first in a number
 
@@ -220,26 +169,4 @@ const-small t {z} = go (lit_of t)
     go (Some y) e = sized y (is_fixnum y) refl e
     go None e = absurd (cc)
 
--- what is made of it
-module _ {l : Option ℤ} (t : Tree) (e : l ≡ lit_of t) where
-  pub const-none : l ≡ None → l ≡ const_of t
-  const-none h = rw (← e, h)
-
-  pub imm-none : l ≡ None → None ≡ as_imm16 t
-  imm-none h = rw (← e, h)
-
-  module _ {z : ℤ} (g : l ≡ Some z) (f : mag z < 9223372036854775808) where
-    pub imm-lit : {r : Option Imm16} → r ≡ imm_of (to_z w64 (of_z w64 z)) → r ≡ as_imm16 t
-    imm-lit q = rw (← e, g) (rw (held z f) at q)
-
-    module _ {b : Bool} (w : b ≡ ltb (mag (to_z w64 (of_z w64 z))) 2305843009213693952) where
-      fixed : b ≡ ltb (mag z) 2305843009213693952
-      fixed = within_by z f 2305843009213693952 w
-
-      pub const-fixnum : b ≡ true → Some z ≡ const_of t
-      const-fixnum h = let q : ltb (mag z) 2305843009213693952 ≡ true = sym fixed ∙ h in rw (← e, g, q)
-
-      pub const-big : b ≡ false → None ≡ const_of t
-      const-big h = let q : ltb (mag z) 2305843009213693952 ≡ false = sym fixed ∙ h in rw (← e, g, q)
-
-pub ruleset literals = (lit_is, lit-not, const-none, const-fixnum, const-big, imm-none, imm-lit)
+pub ruleset literals = (lit_is, lit-not)

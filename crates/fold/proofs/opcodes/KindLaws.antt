@@ -1,17 +1,14 @@
 -- The operators by the numbers of their kinds: an arm of a match on the kind knows the operator.
 use mathlib.Core.Path.{◌≡◌, refl, sym, ap, ◌∙◌}
-use mathlib.Core.Bool.{Bool, false}
+use mathlib.Core.Bool.{Bool}
 use mathlib.Core.List.{[], ◌∷◌}
-use Prim.Native.Nat.{ℕ, ◌-◌, ◌<◌, ◌≤◌}
-use lib.Dec.{leb}
+use Prim.Native.Nat.{ℕ, ◌-◌}
 use lib.ListN.{get_or}
-use borrow.Author.Tests.{le-leb, lt-leb}
 use Rattle.table.specs.Tree.{Arith, bit_and, bit_or, bit_xor, lshift, rshift, add, sub, mul, div, mod', Cmp, eq, ne, lt, le, gt, ge, arith, cmp, binary_kind, kind_of, arith_code, cmp_code}
 use Rattle.table.proofs.Arities.{binary-code}
 use Rattle.insns.specs.declared.op.Three.{Three}
 use Rattle.insns.specs.declared.op.Cmp.{Cmp as JumpCmp}
 use Rattle.fold.specs.Opcodes.{three_of, mirror, branch_of}
-use Rattle.fold.specs.Nodes.{is_junction}
 
 abbrev pub arith_at : ℕ → Arith
 arith_at k = get_or (bit_and ∷ bit_or ∷ bit_xor ∷ lshift ∷ rshift ∷ add ∷ sub ∷ mul ∷ div ∷ []) (k - 8) mod'
@@ -106,13 +103,3 @@ module _ {k : ℕ} {sense : Bool} {r : JumpCmp} where
       go ge h = q
 
 pub ruleset branches = (branch-arm, branch-last)
-
--- ---- And and Or
-
-pub junction-low : {k : ℕ} → k < 24 → false ≡ is_junction k
-junction-low {k} h = rw (lt-leb 24 k h)
-
-pub junction-by : {k : ℕ} → 24 ≤ k → leb k 25 ≡ is_junction k
-junction-by {k} h = rw (le-leb 24 k h)
-
-pub ruleset junctions = (junction-low, junction-by)

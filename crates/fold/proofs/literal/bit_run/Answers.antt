@@ -1,22 +1,12 @@
 -- `literal::bit_run` meets its contract: by what is found, from the lowest bit up.
-use Rattle.std.proofs.Common.{arith}
-use Rattle.fold.proofs.literal.Literals.{zeros-are-bits, bits_small, run_none, run-cast, ones-of, run-low, run_long, run-above, run-ones}
+use Rattle.fold.proofs.literal.Literals.{zeros-are-bits, run_none, ones-of, run-low, run_long, run-above, run-ones}
 use Rattle.fold.proofs.literal.bit_run.Goals as goal
 
 pub returns-then-mask-le0 : goal.returns-then-mask-le0
 returns-then-mask-le0 c = run_none c.args.mask c.ranges.mask.sfits c.if-mask-le0.true
 
-pub overflow_cast-m : goal.overflow_cast-m
-overflow_cast-m c = run-cast c.args.mask c.ranges.mask.sfits c.if-mask-le0.false
-
 pub returns-then-lo-gt62 : goal.returns-then-lo-gt62
 returns-then-lo-gt62 c = run-low c.args.mask c.ranges.mask.sfits c.if-mask-le0.false (zeros-are-bits 64 _) c.if-lo-gt62.true
-
-pub overflow_add-top : goal.overflow_add-top
-overflow_add-top c =
-    let g = ones-of c.args.mask c.ranges.mask.sfits c.if-mask-le0.false _ c.trailing_ones-len.ensures in
-    let h = bits_small 1 _ g in
-    omega arith
 
 pub returns-then-top-gt62 : goal.returns-then-top-gt62
 returns-then-top-gt62 c =

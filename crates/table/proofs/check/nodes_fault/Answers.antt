@@ -14,7 +14,6 @@ unfolding nodes_fault
 loop-i-init c = (omega arith, refl, last-zero _)
 
 pub returns-in_err-node_fault : goal.returns-in_err-node_fault
-unfolding nodes_fault
 returns-in_err-node_fault c =
     some-fault _ _ _ c.loop-i.invariant.1 c.loop-i-test.true c.node_fault.ensures c.in_err-node_fault.was c.from_residual.ensures.1
 
