@@ -154,13 +154,13 @@ record Sample : Type 0 where
 abbrev code : Sample → List ℕ
 code x = words_of (frag_of x.table 2 0 x.dest).code
 
-passes : Checked → Bool
+abbrev passes : Checked → Bool
 passes (Ok tt) = true
 passes (Err f) = false
 
 passes-none : (c : Checked) → passes c ≡ true → c ≡ none
 passes-none (Ok tt) h = refl
-passes-none (Err f) h = absurd (cc)
+passes-none (Err f) h = absurd (mathlib.Core.Bool.false≢true h)
 
 test : Sample → Bool
 test x =

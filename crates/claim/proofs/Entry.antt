@@ -58,9 +58,14 @@ record Front (w : ℕ) (code : List ℕ) (m : Res (ℕ × State)) : Type 0 where
   count : length (words_of m) ≡ w
   words : take w code ≡ words_of m
 
+-- how many words an answer counts
+abbrev count_of : Result Compiled Fault → ℕ
+count_of (Ok c) = c.words
+count_of (Err f) = 0
+
 front : (m : Res (ℕ × State)) {q : Result Compiled Fault} {code sks sps : List ℕ} {c k p w n r f : ℕ} → Compiles q m code sks sps c k p → q ≡ Ok (record { words = w; slots = n; register = r; frame = f }) → Front w code m
 front (done x) {c = c} {w = w} h e =
-    let z : length x.1.words ≡ w = cc h.answer in
+    let z : length x.1.words ≡ w = ap count_of (sym h.answer ∙ e) in
     record { count = z; words = rw h.words (take_at x.1.words _ w z) }
 front (fail n) h e = let z : ◌≡◌ {A = ℕ} 0 1 = cc h.answer in absurd (omega arith)
 

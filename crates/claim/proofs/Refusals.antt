@@ -22,10 +22,10 @@ use Rattle.claim.proofs.Known.{checked, made, frag_of, table-met, Known, known}
 
 -- ---- the check's number is 1 to 5
 
-fault-most : (t : Bool) {f : Fault} {m : ℕ} → number f ≤ m → number_of (fault t f) ≤ m
+fault-most : (t : Bool) (f : Fault) {m : ℕ} → number f ≤ m → number_of (fault t f) ≤ m
 unfolding fault
-fault-most true h = h
-fault-most false h = omega arith
+fault-most true f h = h
+fault-most false f h = omega arith
 
 else-most : (a b : Checked) {m : ℕ} → number_of a ≤ m → number_of b ≤ m → number_of (a or_else b) ≤ m
 unfolding ◌or_else◌
@@ -34,7 +34,7 @@ else-most (Err f) b h k = h
 
 span-most : (ws : List ℕ) (n e g f d : ℕ) → number_of (span_fault (children ws n e g) f d) ≤ 5
 unfolding span_fault children
-span-most ws zero e g f d = else-most _ _ (fault-most _ (omega arith)) (fault-most _ (omega arith))
+span-most ws zero e g f d = else-most _ _ (fault-most _ _ (omega arith)) (fault-most _ _ (omega arith))
 span-most ws (suc n) zero g f d = omega arith
 span-most ws (suc n) (suc j) g f d = span-most ws n (first_at ws j) (max g (depth_at ws j)) f d
 
@@ -44,22 +44,22 @@ nodes-most ws base zero = omega arith
 nodes-most ws base (suc n) =
     else-most (nodes_fault ws base n) _ (nodes-most ws base n)
     (else-most (kind_fault (kind_at ws n) (payload_at ws n)) _
-    (else-most _ _ (fault-most _ (omega arith)) (else-most _ _ (fault-most _ (omega arith)) (fault-most _ (omega arith))))
+    (else-most _ _ (fault-most _ _ (omega arith)) (else-most _ _ (fault-most _ _ (omega arith)) (fault-most _ _ (omega arith))))
     (else-most (span_fault (children ws (arity (kind_at ws n)) n 0) (first_at ws n) (depth_at ws n)) _ (span-most ws (arity (kind_at ws n)) n 0 (first_at ws n) (depth_at ws n))
-    (else-most _ _ (fault-most _ (omega arith)) (fault-most _ (omega arith)))))
+    (else-most _ _ (fault-most _ _ (omega arith)) (fault-most _ _ (omega arith)))))
 
 dest-most : (dest : Option ℕ) (base : ℕ) → number_of (dest_fault dest base) ≤ 5
 unfolding dest_fault
 dest-most None base = omega arith
-dest-most (Some r) base = fault-most _ (omega arith)
+dest-most (Some r) base = fault-most _ _ (omega arith)
 
 check-most : (ws : List ℕ) (params locals : ℕ) (dest : Option ℕ) → number_of (check_of ws params locals dest) ≤ 5
 unfolding check_of shape_fault layout_fault last_fault
 check-most ws params locals dest =
-    else-most (shape_fault ws) _ (else-most _ _ (fault-most _ (omega arith)) (else-most _ _ (fault-most _ (omega arith)) (fault-most _ (omega arith))))
-    (else-most (layout_fault params locals) _ (fault-most _ (omega arith))
+    else-most (shape_fault ws) _ (else-most _ _ (fault-most _ _ (omega arith)) (else-most _ _ (fault-most _ _ (omega arith)) (fault-most _ _ (omega arith))))
+    (else-most (layout_fault params locals) _ (fault-most _ _ (omega arith))
     (else-most (dest_fault dest (params + locals)) _ (dest-most dest (params + locals))
-    (else-most (nodes_fault ws (params + locals) (node_count ws)) _ (nodes-most ws (params + locals) (node_count ws)) (fault-most _ (omega arith)))))
+    (else-most (nodes_fault ws (params + locals) (node_count ws)) _ (nodes-most ws (params + locals) (node_count ws)) (fault-most _ _ (omega arith)))))
 
 -- each number is 1 or more
 least : (f : Fault) → 1 ≤ number f

@@ -1,4 +1,5 @@
 -- Demand 3: the words of an accepted table, run, give what the tree gives.
+use Rattle.faults.specs.Faults.{none}
 use Rattle.std.specs.Prelude.{Option, Some, None}
 use mathlib.Core.Path.{◌≡◌, refl, sym, ap, ap₂, ◌∙◌, subst}
 use mathlib.Core.Bool.{true}
@@ -54,7 +55,7 @@ whole-fixed t (Some d) base n ls h up low fits =
     ).runs 0 (length F.code) (at_self F.code fits) (record { behind = []; is = sym (append-nil F.consts) }))
 
 -- the check without a destination, too
-check-none : (ws : List ℕ) (params locals : ℕ) (dest : Option ℕ) → check_of ws params locals dest ≡ Ok tt → check_of ws params locals None ≡ Ok tt
+check-none : (ws : List ℕ) (params locals : ℕ) (dest : Option ℕ) → check_of ws params locals dest ≡ none → check_of ws params locals None ≡ none
 unfolding check_of dest_fault Faults.◌or_else◌
 check-none ws params locals dest h = let p = check-parts ws params locals dest h in rw (p.0, p.1, p.3) refl
 
@@ -80,7 +81,7 @@ abbrev locals_of : ℕ → List ℕ → List ℕ → List Datum
 locals_of base ks ps = datums (take base ks) (take base ps)
 
 evaluates :
-    (ws : List ℕ) (params locals : ℕ) (dest : Option ℕ) (ks ps : List ℕ) → check_of ws params locals dest ≡ Ok tt → all_well ks ps ≡ true → params + locals ≤ M.size ks ps →
+    (ws : List ℕ) (params locals : ℕ) (dest : Option ℕ) (ks ps : List ℕ) → check_of ws params locals dest ≡ none → all_well ks ps ≡ true → params + locals ≤ M.size ks ps →
     eval_of (locals_of (params + locals) ks ps) (tree ws (node_count ws - 1)) ≡ evaluate_of ws params locals ks ps
 unfolding evaluate_of locals_fault unless Faults.◌or_else◌ Faults.fault
 evaluates ws params locals dest ks ps h w enough =
@@ -173,7 +174,7 @@ ended :
 ended dest n r s ks ps res v o e a = (subst (λ (x : Answer). Agrees dest n r s ks ps x o) e a).outcome.value
 
 -- of a checked table whose fragment's words fit
-module _ (ws : List ℕ) (params locals : ℕ) (dest : Option ℕ) (cap slot_cap : ℕ) (check : check_of ws params locals dest ≡ Ok tt)
+module _ (ws : List ℕ) (params locals : ℕ) (dest : Option ℕ) (cap slot_cap : ℕ) (check : check_of ws params locals dest ≡ none)
     (fits : AllFit (frag_of ws params locals dest).code) where
   abbrev t : Tree
   t = tree ws (node_count ws - 1)

@@ -1,4 +1,5 @@
 -- What the generator emits and patches is the tree's fragment and takes no more than `needs` says, or it is refused because less is lent.
+use Rattle.faults.specs.declared.Fault.{Fault}
 use Rattle.std.specs.Prelude.{Option, Some, None}
 use Rattle.insns.specs.declared.op.Imm16.{Imm16}
 use mathlib.Core.Path.{◌≡◌, refl, sym, ap, subst, ◌∙◌}

@@ -4,7 +4,7 @@ use Rattle.insns.specs.declared.op.Imm16.{Imm16}
 use Rattle.fold.specs.declared.Tail.{Tail}
 use mathlib.Core.Path.{◌≡◌, refl, subst}
 use mathlib.Core.Bool.{Bool, true, false, cond}
-use Prim.Native.Nat.{◌<◌}
+use Prim.Native.Nat.{ℕ, ◌<◌}
 use lib.IntN.{ℤ, pos, negsuc}
 use lib.Signed.{mag}
 use lib.Dec.{ltb}

@@ -248,7 +248,7 @@ module _ (C : List ℕ) (W ls : List Datum) (b : ℕ) where
       }
 
   pub fails-then :
-      {n₁ m₁ n₂ m₂ p top₁ mid top e : ℕ} {P : List Datum → Type 0} → b ≤ n₁ → n₁ ≤ n₂ → n₂ ≤ max n₁ m₁ → top₁ ≤ mid →
+      {n₁ m₁ n₂ m₂ p top₁ mid top : ℕ} {e : Fault} {P : List Datum → Type 0} → b ≤ n₁ → n₁ ≤ n₂ → n₂ ≤ max n₁ m₁ → top₁ ≤ mid →
       Runs C W ls b n₁ m₁ p top₁ mid None P → Fails C W ls b n₂ m₂ mid top e → Fails C W ls b n₁ (max m₁ m₂) p top e
   fails-then le le' le'' le''' r s =
       record {
@@ -275,7 +275,7 @@ module _ (C : List ℕ) (W ls : List Datum) (b : ℕ) where
             (x.0, subst (λ (y : ℕ). Path C K p rs r.count y x.0) e x.1, keep-more le x.2, f x.0 x.3);
       }
 
-  pub fails_more : {n m m' p top top' e : ℕ} → m ≤ m' → top ≤ top' → Fails C W ls b n m p top e → Fails C W ls b n m' p top' e
+  pub fails_more : {n m m' p top top' : ℕ} {e : Fault} → m ≤ m' → top ≤ top' → Fails C W ls b n m p top e → Fails C W ls b n m' p top' e
   fails_more le le' r =
       record {
         count = r.count;
@@ -299,7 +299,7 @@ module _ (C : List ℕ) (W ls : List Datum) (b : ℕ) where
         path = λ K rs g. let x = r.path K rs (good-own dst n m g) in (x.0, x.1, keep-own dst n m x.2, x.3);
       }
 
-  pub fails-own : (dst : Option ℕ) (n m : ℕ) {p top e : ℕ} → Fails C W ls b (d_next dst n) m p top e → Fails C W ls b n (max (d_need dst n) m) p top e
+  pub fails-own : (dst : Option ℕ) (n m : ℕ) {p top : ℕ} {e : Fault} → Fails C W ls b (d_next dst n) m p top e → Fails C W ls b n (max (d_need dst n) m) p top e
   fails-own dst n m r =
       record {
         count = r.count;
