@@ -15,7 +15,7 @@ use insns::op::{Arith, Bare, Cmp, Disp, Imm16, Imm40, Op, Sense, Shift, Slot, Th
 use ops::binary;
 use value::{Value, from_pair};
 
-// An answer for a register, a displacement with an answer to branch by, the next word, or a stop with its number.
+// An answer for a register, a displacement with an answer to branch by, the next word, or a stop with its fault.
 #[derive(Clone, Copy)]
 pub enum Effect {
     Write(u16, Result<Value, Fault>),
@@ -28,42 +28,26 @@ pub enum Effect {
 pub fn room(kinds: &[u8], payloads: &[u64]) -> usize
     ensures { result ≡ Fx.size kinds.now payloads.now }
 {
-    if kinds.len() < payloads.len() {
-        return kinds.len();
-    }
-    payloads.len()
-}
-
-fn of_lent(l: Option<Value>) -> Result<Value, Fault>
-    ensures { result_of result ≡ Forms.of_lent l }
-{
-    match l {
-        Some(v) => Ok(v),
-        None => Err(Fault::IllFormed),
-    }
+    kinds.len().min(payloads.len())
 }
 
 // A register or a slot.
+#[tactic(auto, unfolding(crate::specs::Effect::held))]
 fn read(kinds: &[u8], payloads: &[u64], r: usize) -> Result<Value, Fault>
     ensures { result_of result ≡ held kinds.now payloads.now r }
 {
     if room(kinds, payloads) <= r {
         return Err(Fault::OutOfRange);
     }
-    of_lent(from_pair(kinds[r], payloads[r]))
+    from_pair(kinds[r], payloads[r]).ok_or(Fault::IllFormed)
 }
 
 // The operator of a node kind on what was read. Left before right: the first fault counts.
+#[tactic(auto, unfolding(crate::specs::Effect::both))]
 fn both(kind: u64, x: Result<Value, Fault>, y: Result<Value, Fault>) -> Result<Value, Fault>
     ensures { result_of result ≡ Fx.both kind (result_of x) (result_of y) }
 {
-    let Ok(a) = x else {
-        return x;
-    };
-    let Ok(b) = y else {
-        return y;
-    };
-    binary(kind, a, b)
+    binary(kind, x?, y?)
 }
 
 fn literal(z: i64) -> Result<Value, Fault>
@@ -82,8 +66,7 @@ fn count(n: u8) -> Result<Value, Fault>
 fn literal16(z: Imm16) -> Result<Value, Fault>
     ensures { result_of result ≡ Fx.literal z.n }
 {
-    let n = z.n;
-    literal(n as i64)
+    literal(z.n as i64)
 }
 
 fn mask(lo: u8, len: u8) -> Result<Value, Fault>
@@ -140,8 +123,7 @@ pub fn three_kind(k: Three) -> u64
         Three::Mul => table::MUL,
         Three::Div => table::DIV,
         Three::Modulo => table::MOD,
-        Three::GetIndex => 0,
-        Three::SetIndex => 0,
+        Three::GetIndex | Three::SetIndex => 0,
     }
 }
 
@@ -204,11 +186,9 @@ fn two(k: Two, d: u16, a: u16, kinds: &[u8], payloads: &[u64]) -> Effect
     match k {
         Two::Mov => Effect::Write(d, read(kinds, payloads, a as usize)),
         Two::Not => Effect::Write(d, inverted(read(kinds, payloads, a as usize))),
-        Two::BitNot => Effect::Halt(Fault::NotRun),
-        Two::CellSet => Effect::Halt(Fault::NotRun),
-        Two::CellGet => Effect::Halt(Fault::NotRun),
-        Two::ArrPush => Effect::Halt(Fault::NotRun),
-        Two::BaClone => Effect::Halt(Fault::NotRun),
+        Two::BitNot | Two::CellSet | Two::CellGet | Two::ArrPush | Two::BaClone => {
+            Effect::Halt(Fault::NotRun)
+        }
     }
 }
 
@@ -217,9 +197,7 @@ fn slot(k: Slot, d: u16, s: u32, slot_kinds: &[u8], slot_payloads: &[u64]) -> Ef
 {
     match k {
         Slot::LoadConst => Effect::Write(d, read(slot_kinds, slot_payloads, s as usize)),
-        Slot::GetGlobal => Effect::Halt(Fault::NotRun),
-        Slot::SetGlobal => Effect::Halt(Fault::NotRun),
-        Slot::ArrNew => Effect::Halt(Fault::NotRun),
+        Slot::GetGlobal | Slot::SetGlobal | Slot::ArrNew => Effect::Halt(Fault::NotRun),
     }
 }
 

@@ -1,4 +1,4 @@
--- The arithmetic and bit operators on values, by document 01, "Values": a value, or the number of a fault. Within one operation 20 comes first, then 23, then
+-- The arithmetic and bit operators on values, by document 01, "Values": a value, or a fault. Within one operation 20 comes first, then 23, then
 -- 22 or 24, then 21: each definition below asks in that order from the outside inward.
 use Rattle.std.specs.Prelude.{ℕ, ◌^◌, ◌&&◌, cond, leb, ℤ, nat_abs, Option, Some, None}
 use Rattle.faults.specs.Numbers.{wrong_kind, not_exact}

@@ -1,4 +1,4 @@
--- What an operator answers, by document 01, "Values": a value, or the number of a fault.
+-- What an operator answers, by document 01, "Values": a value, or a fault.
 use Rattle.value.specs.declared.Value.{Value}
 use Rattle.faults.specs.declared.Fault.{Fault}
 use Rattle.std.specs.Prelude.{Bool, true, false, Result, Ok, Err}

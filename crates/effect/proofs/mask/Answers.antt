@@ -1,5 +1,4 @@
 -- `mask` meets its contract: the mask as two's complement.
-use borrow.Author.Rules.{rules}
 use mir.Syntax.{w64}
 use Rattle.effect.proofs.EffectLaws.{back}
 use Rattle.effect.proofs.mask.Goals as goal

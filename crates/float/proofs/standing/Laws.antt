@@ -6,20 +6,19 @@ use Prim.Native.Nat.{ℕ, ◌+◌, ◌-◌, ◌*◌, ◌/◌, ◌%◌, ◌^◌, 
 use native.Mathlib.Nat.{mod-eq_of_lt}
 use native.Mathlib.Omega.{arith}
 use lib.Dec.{ltb, leb}
-use lib.IntN.{ℤ, pos, negsuc, nat_abs}
+use lib.IntN.{ℤ, nat_abs}
 use mir.Syntax.{w64}
 use mir.Val.{to_z, Fits}
 use mir.ValLaws.{to_z-Fits}
-use borrow.Author.Tests.{lt-ltb, le-ltb, le-leb, lt-leb, ltb-false, leb-true, leb-false}
+use borrow.Author.Tests.{lt-ltb, le-ltb, ltb-false, leb-true, leb-false}
 use Rattle.int64.specs.Patterns.{bits_of}
 use Rattle.int64.specs.Sign.{negative}
 use Rattle.int64.specs.Order.{order_z, holds}
 use Rattle.int64.specs.declared.order.Cmp.{Cmp}
-use Rattle.int64.proofs.sign.Laws.{never}
 use Rattle.float.specs.Bits.{Real, sign, rest, read}
 use Rattle.float.specs.Float as F
 use Rattle.float.specs.Order.{order}
-use Rattle.float.specs.Standing.{exactly, standing}
+use Rattle.float.specs.Standing.{standing}
 use Rattle.float.specs.Places.{two52, two63, is_far, whole_part, place_of, stands_by}
 use Rattle.float.proofs.Ops.{of_int-exact}
 use Rattle.float.proofs.standing.Wide.{wide-stands, whole-limit}

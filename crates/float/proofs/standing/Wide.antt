@@ -1,24 +1,23 @@
 -- An Int beyond 2^53 stands to a Float as it stands to the place of the Float among the Ints: sizes in steps of 2^-1074 are compared after
 -- a common factor is taken out, and the patterns of 2^52 and 2^63 bound the sizes of floats.
 use Rattle.std.specs.Prelude.{Some, None}
-use mathlib.Core.Path.{◌≡◌, refl, sym, ap, ap₂, ◌∙◌, subst}
+use mathlib.Core.Path.{◌≡◌, refl, sym, ap, ◌∙◌, subst}
 use mathlib.Core.Bool.{Bool, true, false, cond}
 use Prim.Native.Nat.{ℕ, zero, suc, ◌+◌, ◌-◌, ◌*◌, ◌/◌, ◌%◌, ◌^◌, ◌≤◌, ◌<◌}
-use native.Mathlib.Nat.{le_trans, lt_of_le_of_lt, lt_of_lt_of_le, mul_assoc, mul_comm, mul-one, zero-mul, mul-le-mul_right, mul-le-mul_left, mul-lt-mul_of_pos_right, mod-eq_of_lt}
+use native.Mathlib.Nat.{le_trans, lt_of_le_of_lt, lt_of_lt_of_le, mul_assoc, mul-one, zero-mul, mul-le-mul_right, mul-le-mul_left, mul-lt-mul_of_pos_right, mod-eq_of_lt}
 use native.Mathlib.Omega.{arith}
-use lib.Dec.{ltb, leb, eqb}
-use lib.IntN.{ℤ, pos, negsuc, nat_abs, neg_ℤ}
+use lib.Dec.{ltb, eqb}
+use lib.IntN.{ℤ, pos, negsuc, nat_abs}
 use lib.Pow.{pow_pos, pow_mono, pow-add}
-use lib.Signed.{lt_z, mag}
 use mir.Syntax.{w64}
 use mir.Val.{to_z, SFits}
 use mir.ValLaws.{to_z_pos, to_z-neg}
-use borrow.Author.Tests.{lt-ltb, le-ltb, le-leb, ltb-true, ltb-false, leb-true, leb-false, eqb-true, eq-eqb, ne_eqb}
+use borrow.Author.Tests.{lt-ltb, le-ltb, le-leb, ltb-true, ltb-false, leb-true, leb-false, eqb-true}
 use Rattle.int64.specs.Sign.{negative, with_sign}
 use Rattle.int64.specs.Patterns.{bits_of}
-use Rattle.int64.specs.Order.{Order, less, equal, greater, unordered, order_z}
+use Rattle.int64.specs.Order.{Order, less, equal, greater, order_z}
 use Rattle.int64.proofs.sign.Laws.{never}
-use Rattle.float.specs.Bits.{Real, nan, inf, fin, sign, rest, infinity, is_nan, scaled, units, read}
+use Rattle.float.specs.Bits.{nan, inf, fin, sign, rest, infinity, is_nan, scaled, units, read}
 use Rattle.float.specs.Order.{order}
 use Rattle.float.specs.Standing.{exactly, standing}
 use Rattle.float.specs.Places.{two52, two63, is_far, whole_part, place_of, stands_by}

@@ -3,7 +3,6 @@ use lib.Bits.{bit_and, bit_or, bit_xor}
 use Rattle.int64.specs.Int.{operate}
 use Rattle.int64.specs.Exact.{arith}
 use Rattle.int64.proofs.Answers.{bits-by}
-use Rattle.std.proofs.Common.{rules}
 use Rattle.int64.proofs.operate.Goals as goal
 
 pub returns-in-Add : goal.returns-in-Add

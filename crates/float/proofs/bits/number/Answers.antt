@@ -4,7 +4,6 @@ use mathlib.Core.Bool.{Bool, true, not}
 use lib.Dec.{T}
 use lib.Ieee.{Float, nan, inf, fin, is_nan, of_bits, div, binary64}
 use lib.Ieee.Bits.{nan_bits_is, nan_bits_above}
-use borrow.Author.Rules.{rules}
 use Rattle.float.proofs.bits.number.Goals as goal
 
 nan-of : (x : Float) → is_nan x ≡ true → x ≡ nan

@@ -4,7 +4,6 @@ use mathlib.Core.Bool.{false, not}
 use lib.Dec.{T}
 use lib.Ieee.{Float, nan, inf, fin, is_nan, ne, to_bits, binary64}
 use lib.Ieee.Compare.{differs_from_itself}
-use borrow.Author.Rules.{rules}
 use Rattle.float.proofs.bits.pattern.Goals as goal
 
 no_nan : (x : Float) → ne x x ≡ false → T (not (is_nan x))

@@ -1,7 +1,6 @@
 -- `whole_part` meets its contract: the digits are moved up by at most 11 places, so none is lost.
 use native.Mathlib.Omega.{arith}
 use Rattle.float.proofs.standing.Laws.{whole-shifted}
-use borrow.Author.Rules.{rules}
 use Rattle.float.proofs.standing.whole_part.Goals as goal
 
 pub overflow_add-result : goal.overflow_add-result

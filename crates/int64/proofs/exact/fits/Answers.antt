@@ -1,6 +1,5 @@
 -- `fits` meets its contract: each test is that the exact result lies in the range.
 use Rattle.int64.proofs.exact.Laws.{places}
-use Rattle.std.proofs.Common.{rules}
 use Rattle.int64.proofs.exact.fits.Goals as goal
 
 pub returns-then-a-lt9223372036854775808 : goal.returns-then-a-lt9223372036854775808

@@ -1,6 +1,5 @@
 -- `result` meets its contract: the sum or difference that wraps is the exact one where that fits.
 use Rattle.int64.proofs.exact.Laws.{places}
-use Rattle.std.proofs.Common.{rules}
 use Rattle.int64.proofs.exact.result.Goals as goal
 
 pub returns-in-Add : goal.returns-in-Add

@@ -1,6 +1,5 @@
 -- `times` meets its contract: the product is taken only where it fits.
 use Rattle.int64.proofs.exact.Laws.{places}
-use Rattle.std.proofs.Common.{rules}
 use Rattle.int64.proofs.exact.times.Goals as goal
 
 pub overflow_mul-x : goal.overflow_mul-x

@@ -1,5 +1,5 @@
 -- `mask` meets its contract: by where the ones end.
-use Rattle.std.proofs.Common.{◌≡◌, ℕ, ◌+◌, ◌-◌, ◌*◌, ◌%◌, ◌^◌, ◌≤◌, sym, ap, ◌∙◌, mul_assoc, mul_comm, mul-add, arith, pow_pos, pow-add, rules}
+use Rattle.std.proofs.Common.{◌≡◌, ℕ, ◌+◌, ◌-◌, ◌*◌, ◌%◌, ◌^◌, ◌≤◌, sym, ap, ◌∙◌, mul_assoc, mul_comm, mul-add, arith, pow_pos, pow-add}
 use native.Mathlib.Nat.{mul-mod_right, add-mul-mod_self_right}
 use Rattle.int64.specs.Mask.{mask_of}
 use Rattle.int64.proofs.sign.Laws.{one_shifted}

@@ -1,6 +1,5 @@
 -- `size` meets its contract: by the sign.
 use Rattle.int64.proofs.sign.Laws.{size-up, size-down}
-use Rattle.std.proofs.Common.{rules}
 use Rattle.int64.proofs.sign.size.Goals as goal
 
 pub returns-then-p-ge9223372036854775808 : goal.returns-then-p-ge9223372036854775808

@@ -1,5 +1,5 @@
 -- `with_sign` meets its contract.
-use Rattle.std.proofs.Common.{arith, rules}
+use Rattle.std.proofs.Common.{arith}
 use Rattle.int64.specs.Patterns.{bits_of}
 use Rattle.int64.proofs.sign.with_sign.Goals as goal
 
