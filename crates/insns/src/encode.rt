@@ -347,7 +347,7 @@ pub fn by_id_op(k: ById) -> u8
     }
 }
 
-// The word of i, or Refused (9).
+// The word of i, if its operands fit their fields.
 pub fn encode(i: Op) -> Option<Insn>
     ensures { result ≡ made_of i }
 {

@@ -1,4 +1,4 @@
-// The opcode and the constructor of each of the 77 instructions, in the order of 001 and with its reasons. A constructor answers Refused (9) where
+// The opcode and the constructor of each of the 77 instructions, in the order of 001 and with its reasons. A constructor answers None where
 // an operand does not fit its field.
 ghost use Rattle.std.specs.Prelude.{◌≡◌};
 ghost use Rattle.insns.specs.Insns.{made_of};

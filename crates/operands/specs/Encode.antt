@@ -19,6 +19,6 @@ fields_from ws [] = []
 fields_from [] (p ∷ ps) = u 0 p ∷ fields_from [] ps
 fields_from (w ∷ ws) (p ∷ ps) = field_of w (given w p) ∷ fields_from ws ps
 
--- the word of an opcode and five operands, or Refused (9); so is an opcode over 76
+-- the word of an opcode and five operands, if there is one; an opcode over 76 has none
 unfoldable pub encode_of : ℕ → ℕ → ℕ → ℕ → ℕ → ℕ → Option Insn
 encode_of n a b c d e = cond (ltb n (length forms)) (make n (fields_from (widths (form_at n)) (a ∷ b ∷ c ∷ d ∷ e ∷ []))) None
