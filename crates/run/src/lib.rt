@@ -1,33 +1,26 @@
 // A run with a budget, and the run of a part of a store.
 #![tactic(auto)]
 
-ghost use Rattle.std.specs.Prelude.{◌≡◌, length, ◌<◌, ◌≤◌};
+ghost use Rattle.std.specs.Prelude.{◌≡◌, length, ◌<◌, Err};
 ghost use Rattle.fast.specs.Plan.{Within};
 ghost use Rattle.machine.specs.Step.{after, step_of};
-ghost use Rattle.machine.specs.Run.{out, run_from, run_of, run_part_of};
+ghost use Rattle.machine.specs.Run.{out, ran, run_from, run_of, run_part_of};
 
-use faults::Fault;
 use fast::step::quick_step;
+use faults::Fault;
 use machine::run::Ran;
 use machine::step::step;
 use value::pairs::all_well;
 
-// The least of three: a bound on the registers or slots that the quick step looks at. Any smaller one would do, at the cost of speed alone.
-fn least(a: usize, b: usize, c: usize) -> usize
-    ensures upper_bound { result ≤ a }
-    ensures upper_bound_2 { result ≤ b }
-    ensures upper_bound_3 { result ≤ c }
+// A run that stops, with the steps that it took and where.
+fn stopped(fault: Fault, steps: u64, position: usize) -> Ran
+    ensures { result ≡ ran (Err fault) steps position }
 {
-    if a < b {
-        if a < c {
-            return a;
-        }
-        return c;
+    Ran {
+        end: Err(fault),
+        steps,
+        position,
     }
-    if b < c {
-        return b;
-    }
-    c
 }
 
 // The step at a position: the quick one where it is taken, else the general one.
@@ -47,7 +40,7 @@ fn next(
     ensures { after result kinds.new payloads.new
         ≡ step_of words.now slot_kinds.now slot_payloads.now at kinds.old payloads.old }
 {
-    let Some(p) = quick_step(
+    match quick_step(
         words,
         at,
         room,
@@ -56,10 +49,10 @@ fn next(
         slots,
         slot_kinds,
         slot_payloads,
-    ) else {
-        return step(words, at, kinds, payloads, slot_kinds, slot_payloads);
-    };
-    Ok(p)
+    ) {
+        Some(p) => Ok(p),
+        None => step(words, at, kinds, payloads, slot_kinds, slot_payloads),
+    }
 }
 
 // The steps one after the other. A stopping step is not counted, and the end comes before the budget.
@@ -76,20 +69,15 @@ fn run_from(
         ≡ run_from words.now slot_kinds.now slot_payloads.now budget 0 start
         kinds.old payloads.old }
 {
-    let room = least(kinds.len(), payloads.len(), 0x1_0000);
-    let slots = least(slot_kinds.len(), slot_payloads.len(), 0x1_0000_0000);
+    // The registers and slots that the quick step looks at: any smaller numbers would do, at the cost of speed alone.
+    let room = kinds.len().min(payloads.len()).min(0x1_0000);
+    let slots = slot_kinds.len().min(slot_payloads.len()).min(0x1_0000_0000);
     let mut at = start;
     let mut steps = 0;
     while at < words.len() {
         if steps == budget {
-            return Ran {
-                end: Err(Fault::BudgetSpent),
-                steps: steps,
-                position: at,
-            };
+            return stopped(Fault::BudgetSpent, steps, at);
         }
-        let before = steps;
-        steps += 1;
         match next(
             words,
             at,
@@ -100,27 +88,21 @@ fn run_from(
             slot_kinds,
             slot_payloads,
         ) {
-            Ok(p) => {
-                at = p;
-            }
-            Err(n) => {
-                return Ran {
-                    end: Err(n),
-                    steps: before,
-                    position: at,
-                };
-            }
+            Ok(p) => at = p,
+            Err(fault) => return stopped(fault, steps, at),
         }
+        steps += 1;
     }
     Ran {
         end: Ok(()),
-        steps: steps,
+        steps,
         position: at,
     }
 }
 
 // Runs the words from a start on, with registers and slots lent as pairs and at most `budget` steps. The pairs are looked at once, before
 // the first step, so that no step meets an ill-formed one.
+#[tactic(auto, unfolding(machine::specs::Run::run_of))]
 pub fn run(
     words: &[u64],
     start: usize,
@@ -134,25 +116,10 @@ pub fn run(
         ≡ run_of words.now slot_kinds.now slot_payloads.now budget start kinds.old payloads.old }
 {
     if words.len() < start {
-        return Ran {
-            end: Err(Fault::OutOfRange),
-            steps: 0,
-            position: start,
-        };
+        return stopped(Fault::OutOfRange, 0, start);
     }
-    if !all_well(kinds, payloads) {
-        return Ran {
-            end: Err(Fault::IllFormed),
-            steps: 0,
-            position: 0,
-        };
-    }
-    if !all_well(slot_kinds, slot_payloads) {
-        return Ran {
-            end: Err(Fault::IllFormed),
-            steps: 0,
-            position: 0,
-        };
+    if !all_well(kinds, payloads) || !all_well(slot_kinds, slot_payloads) {
+        return stopped(Fault::IllFormed, 0, 0);
     }
     run_from(
         words,
@@ -181,19 +148,8 @@ pub fn run_part(
         ≡ run_part_of store.now entry end slot_kinds.now slot_payloads.now budget
         kinds.old payloads.old }
 {
-    if end < entry {
-        return Ran {
-            end: Err(Fault::OutOfRange),
-            steps: 0,
-            position: entry,
-        };
-    }
-    if store.len() < end {
-        return Ran {
-            end: Err(Fault::OutOfRange),
-            steps: 0,
-            position: entry,
-        };
+    if end < entry || store.len() < end {
+        return stopped(Fault::OutOfRange, 0, entry);
     }
     run(
         &store[entry..end],

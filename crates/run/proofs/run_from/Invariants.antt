@@ -1,10 +1,8 @@
 -- `run_from` meets its contract. The loop's invariant: what is left of the run from here gives the whole answer. The measure is what is left of the budget.
-use borrow.Author.Rules.{rules}
 use mathlib.Core.Path.{◌≡◌}
 use Prim.Native.Nat.{◌≤◌, ◌-◌}
 use lib.ListN.{length}
 use Rattle.machine.specs.Run.{run_from}
-use Rattle.machine.proofs.RunLaws.{turns}
 use Rattle.run.proofs.run_from.Given as goal
 
 abbrev pub invariant-loop-at : goal.invariant-loop-at
