@@ -109,13 +109,14 @@ module _ {c ks ps : List ℕ} (dst : Option ℕ) {st : St} (fit : Fit (bufs c ks
         held (pos 4 *ℤ to_z w64 (of_z w64 z)) (four-fits z g w y).sfits ∙ ap (λ (x : ℤ). pos 4 *ℤ x) (held z g ∙ sym number) in
         leaf-by 3 h (rw (fits-is y) (says-by (ap (λ (x : ℤ). put_d (load_op (record { raw = x })) dst (st_of (bufs c ks ps) st)) q) (s ks ps fit)))
 
-    pub leaf-big : {b : Bufs} {r : Result (ℕ × St) Fault} → t ≡ false → Says b r (const_d (const_of 2 p) dst (st_of (bufs c ks ps) st)) → Says b r (leaf_d (leaf_at pay kind) dst (st_of (bufs c ks ps) st))
+    pub leaf-big : {b : Bufs} {r : Result (ℕ × St) Fault} {v : Datum} → t ≡ false → Says b r (const_d v dst (st_of (bufs c ks ps) st)) → v ≡ const_of 2 p → Says b r (leaf_d (leaf_at pay kind) dst (st_of (bufs c ks ps) st))
     unfolding leaf_d leaf_at of_pair
-    leaf-big y s = leaf-by 3 h (rw (fits-is y) (says-by (ap (λ (x : ℕ). const_d (Val.int (to_z w64 x)) dst (st_of (bufs c ks ps) st)) read_is) s))
+    leaf-big y s e =
+        leaf-by 3 h (rw (fits-is y) (says-by (ap (λ (x : Datum). const_d x dst (st_of (bufs c ks ps) st)) e ∙ ap (λ (x : ℕ). const_d (Val.int (to_z w64 x)) dst (st_of (bufs c ks ps) st)) read_is) s))
 
-  pub leaf-float : {p : ℕ} → p ≡ pay → {b : Bufs} {r : Result (ℕ × St) Fault} → k ≡ 4 → Says b r (const_d (const_of 3 p) dst (st_of (bufs c ks ps) st)) → Says b r (leaf_d (leaf_at pay kind) dst (st_of (bufs c ks ps) st))
+  pub leaf-float : {p : ℕ} → p ≡ pay → {b : Bufs} {r : Result (ℕ × St) Fault} {v : Datum} → k ≡ 4 → Says b r (const_d v dst (st_of (bufs c ks ps) st)) → v ≡ const_of 3 p → Says b r (leaf_d (leaf_at pay kind) dst (st_of (bufs c ks ps) st))
   unfolding leaf_d leaf_at of_pair
-  leaf-float read_is h s = leaf-by 4 h (says-by (ap (λ (x : ℕ). const_d (Val.float x) dst (st_of (bufs c ks ps) st)) read_is) s)
+  leaf-float read_is h s e = leaf-by 4 h (says-by (ap (λ (x : Datum). const_d x dst (st_of (bufs c ks ps) st)) e ∙ ap (λ (x : ℕ). const_d (Val.float x) dst (st_of (bufs c ks ps) st)) read_is) s)
 
 -- the last arm is a Ref's
 module _ {ws : List ℕ} {i : ℕ} (ready : LeafReady ws i) {k : ℕ} (e : k ≡ kind_at ws i) (n0 : k ≡ 0 → ⊥) (n1 : k ≡ 1 → ⊥) (n2 : k ≡ 2 → ⊥) (n3 : k ≡ 3 → ⊥) (n4 : k ≡ 4 → ⊥) where

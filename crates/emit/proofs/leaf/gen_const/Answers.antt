@@ -5,7 +5,7 @@ use Rattle.emit.proofs.LeafLaws.{consts, fit-dest}
 use Rattle.emit.proofs.leaf.gen_const.Goals as goal
 
 pub push_const-requires : goal.push_const-requires
-push_const-requires c = (fit-dest c.requires.0 _ c.dest.ensures c.in_ok-d.was, c.requires.1)
+push_const-requires c = fit-dest c.requires _ c.dest.ensures c.in_ok-d.was
 
 pub returns-in_err-d : goal.returns-in_err-d
 unfolding const_d
