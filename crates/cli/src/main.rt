@@ -12,7 +12,7 @@ mod why;
 
 use crate::gather::head_of;
 use crate::show::{Outcome, show};
-use print::{four, say, tell};
+use print::{say, tell};
 use reader::gather::{end_of, put_nodes, put_values};
 use reader::head::{Head, NODES};
 use std::env::{Env, FillError};
@@ -325,7 +325,7 @@ fn say_totals(rt: &impl Print, t: Totals) -> io::Result<()> {
     tell(
         rt,
         b"total: % with a value, % refused, % stopped by a fault, % unreadable\n",
-        four(t.values, t.refused, t.faults, t.unreadable),
+        &[t.values, t.refused, t.faults, t.unreadable],
     )
 }
 

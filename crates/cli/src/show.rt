@@ -6,9 +6,9 @@ use crate::trouble::say_at;
 use crate::why::say_where;
 use compile::buffers::Compiled;
 use machine::run::Ran;
-use print::{none, one, say, say_value, tell, tell_line, three, two};
+use print::{say, say_value, tell, tell_line};
 use reader::gather::put_spans;
-use reader::head::{Head, NODES, base_of, locals_of};
+use reader::head::{Head, NODES, Said, base_of, budget_of, locals_of, params_of};
 use std::io;
 use table::Dest;
 use value::answer::Answer;
@@ -38,11 +38,11 @@ fn within(n: usize, room: usize) -> usize
     room
 }
 
-fn dest_of(d: u64) -> Dest {
-    if d == 0 {
-        return Dest::None;
+fn dest_of(d: Option<Said>) -> Dest {
+    match d {
+        Some(d) => Dest::Reg(d.number),
+        None => Dest::None,
     }
-    Dest::Reg(d - 1)
 }
 
 // The meaning of a number that a caller can get back, and the line's end.
@@ -62,7 +62,8 @@ fn say_meaning(rt: &impl Print, n: u8) -> io::Result<()> {
               : an operand does not fit its field\n\
               : a word that does not decode",
             n as u64,
-            none(),
+            &[],
+            0,
         )?;
     } else {
         tell_line(
@@ -78,14 +79,15 @@ fn say_meaning(rt: &impl Print, n: u8) -> io::Result<()> {
               : opcode not run here\n\
               : ill-formed value lent",
             (n - 20) as u64,
-            none(),
+            &[],
+            0,
         )?;
     }
     say(rt, b"\n")
 }
 
 fn say_refused(rt: &impl Print, n: u8) -> io::Result<()> {
-    tell(rt, b"refused with %", one(n as u64))?;
+    tell(rt, b"refused with %", &[n as u64])?;
     say_meaning(rt, n)
 }
 
@@ -93,19 +95,19 @@ fn say_layout(rt: &impl Print, h: Head) -> io::Result<()> {
     tell(
         rt,
         b"nodes %, parameters %, locals %",
-        three(h.nodes as u64, h.params, locals_of(h)),
+        &[h.nodes as u64, params_of(h), locals_of(h)],
     )?;
-    if h.dest == 0 {
-        return say(rt, b", no destination\n");
+    match h.dest {
+        Some(d) => tell(rt, b", destination r%\n", &[d.number]),
+        None => say(rt, b", no destination\n"),
     }
-    tell(rt, b", destination r%\n", one(h.dest - 1))
 }
 
 // Each pair, after its number: a register that is given a value, or a constant.
 fn list_pairs(rt: &impl Print, before: &[u8], kinds: &[u8], payloads: &[u64]) -> io::Result<()> {
     for i in 0..kinds.len() {
         if i < payloads.len() {
-            tell(rt, before, one(i as u64))?;
+            tell(rt, before, &[i as u64])?;
             say_value(rt, kinds[i], payloads[i])?;
             say(rt, b"\n")?;
         }
@@ -130,7 +132,7 @@ fn list(
     tell(
         rt,
         b"result in r%, frame of %\n",
-        two(register as u64, frame as u64),
+        &[register as u64, frame as u64],
     )
 }
 
@@ -143,7 +145,7 @@ fn say_tree(rt: &impl Print, a: Answer) -> io::Result<bool> {
             Ok(true)
         }
         Answer::Fault(n) => {
-            tell(rt, b"fault %", one(n as u64))?;
+            tell(rt, b"fault %", &[n as u64])?;
             say_meaning(rt, n)?;
             Ok(false)
         }
@@ -164,17 +166,15 @@ fn say_evaluated(
     say(rt, b"tree:  ")?;
     say_tree(
         rt,
-        eval::evaluate(nodes, h.params, locals_of(h), &kinds[..n], payloads),
+        eval::evaluate(nodes, params_of(h), locals_of(h), &kinds[..n], payloads),
     )
 }
 
 fn say_steps(rt: &impl Print, n: u64) -> io::Result<()> {
-    tell_line(
-        rt,
-        b" after % steps\n after % step",
-        if n == 1 { 1 } else { 0 },
-        one(n),
-    )
+    if n == 1 {
+        return say(rt, b" after 1 step");
+    }
+    tell(rt, b" after % steps", &[n])
 }
 
 // The value of a register.
@@ -189,14 +189,14 @@ fn say_register(
             say_value(rt, kinds[register], payloads[register])?;
         }
     }
-    tell(rt, b" in r%", one(register as u64))
+    tell(rt, b" in r%", &[register as u64])
 }
 
 fn say_stop(rt: &impl Print, r: Ran) -> io::Result<()> {
     tell(
         rt,
         b"fault % at word %",
-        two(r.number as u64, r.position as u64),
+        &[r.number as u64, r.position as u64],
     )?;
     say_steps(rt, r.steps)?;
     say_meaning(rt, r.number)
@@ -282,7 +282,7 @@ fn is_ready(rt: &impl Print, h: Head) -> io::Result<bool> {
     tell(
         rt,
         b"not run: % of % registers have a value\n",
-        two(h.values as u64, base_of(h)),
+        &[h.values as u64, base_of(h)],
     )?;
     Ok(false)
 }
@@ -319,7 +319,7 @@ fn answers(
             kinds,
             payloads,
             o,
-            h.budget,
+            budget_of(h),
         )?;
         return Ok(joint(tree, ran));
     }
@@ -370,7 +370,7 @@ fn compile(
     let mut slot_payloads = [0u64; SLOTS];
     let c = compile::compile(
         nodes,
-        h.params,
+        params_of(h),
         locals_of(h),
         dest_of(h.dest),
         &mut code,
@@ -394,7 +394,7 @@ fn compile(
 fn number_of(s: &[u8], nodes: &mut [u64], h: Head) -> u8 {
     table::complete::complete(nodes);
     put_spans(s, nodes);
-    let n = table::check::check(nodes, h.params, locals_of(h), dest_of(h.dest));
+    let n = table::check::check(nodes, params_of(h), locals_of(h), dest_of(h.dest));
     if n != faults::NONE {
         table::complete::complete(nodes);
     }
