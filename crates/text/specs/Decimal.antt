@@ -1,5 +1,6 @@
 -- A float as text. A text is a list of bytes; a finite float is a whole number of steps of 2^-1074 (float's specs/Bits).
-use Rattle.std.specs.Prelude.{ℕ, suc, ◌+◌, ◌-◌, ◌*◌, ◌^◌, Bool, true, false, ◌&&◌, cond, List, [], ◌∷◌, Option, Some, None, Result, Ok, Err, leb, ltb, eqb, length, get_or, take, drop}
+use Rattle.std.specs.Prelude.{ℕ, suc, ◌+◌, ◌-◌, ◌*◌, ◌^◌, Bool, true, false, ◌&&◌, cond, leb, ltb, eqb}
+use Rattle.std.specs.Prelude.{List, [], ◌∷◌, Option, Some, None, Result, Ok, Err, length, get_or, take, drop}
 use Rattle.float.specs.Bits.{units, infinity, quiet}
 use Rattle.float.specs.Float.{rounded, with_sign_bit}
 use Rattle.text.specs.Bytes.{index_of}
