@@ -108,7 +108,7 @@ pub fn put_values(s: &[u8], kinds: &mut [u8], payloads: &mut [u64]) {
     }
 }
 
-// The position after the expression that begins at `from`.
+// The position after the expression that begins at `from`. The loop goes by positions, since a position is its answer.
 pub fn end_of(s: &[u8], from: usize) -> usize
     requires { from < length s.now }
     ensures lower_bound { from < result }

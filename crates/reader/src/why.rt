@@ -119,7 +119,7 @@ fn is_at_fault(nodes: &[u64], n: usize, r: Result<Line, Wrong>, base: u64) -> bo
     is_node(r) && why(look(nodes, n, r), base).is_some()
 }
 
-// The first node at fault of a completed table.
+// The first node at fault of a completed table. The loop goes by positions, since a position is part of its answer.
 pub fn first_at_fault(nodes: &[u64], s: &[u8], line: u64, base: u64) -> Option<Spot>
     ensures node_bound { IfSome result (λ t. t.node ≤ 4097) }
     ensures at_in_bounds { IfSome result (λ t. t.at ≤ length s.now) }

@@ -118,7 +118,7 @@ pub fn write_words<W: Write>(output: &mut W, words: &[u64]) -> io::Result<()>
     Ok(())
 }
 
-// Writes each byte as a number.
+// Writes each byte as a number. One function over both element types is no plainer: its contract would have to name the list of numbers by a relation.
 pub fn write_bytes<W: Write>(output: &mut W, bytes: &[u8]) -> io::Result<()>
     ensures { OnOk result (Appends (W.contents output.old) (W.contents output.new) (number_bytes bytes.now)) }
 {
