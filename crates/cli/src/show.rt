@@ -6,9 +6,9 @@ use crate::trouble::say_at;
 use crate::why::say_where;
 use compile::buffers::Compiled;
 use machine::run::Ran;
-use print::{none, one, say, say_value, tell, tell_line, three, two};
+use print::{say, say_value, tell};
 use reader::gather::put_spans;
-use reader::head::{Head, NODES, base_of, locals_of};
+use reader::head::{Head, NODES, Said, base_of, budget_of, locals_of, params_of};
 use std::io;
 
 // What became of an expression.
@@ -26,8 +26,8 @@ const WORDS: usize = 4 * NODES;
 
 const SLOTS: usize = NODES;
 
-fn dest_of(d: u64) -> Option<u64> {
-    d.checked_sub(1)
+fn dest_of(d: Option<Said>) -> Option<u64> {
+    d.map(|said| said.number)
 }
 
 // What a fault means.
@@ -68,7 +68,7 @@ fn say_meaning(rt: &impl Print, f: Fault) -> io::Result<()> {
 }
 
 fn say_refused(rt: &impl Print, f: Fault) -> io::Result<()> {
-    tell(rt, b"refused with %", one(u64::from(f.number())))?;
+    tell(rt, b"refused with %", &[u64::from(f.number())])?;
     say_meaning(rt, f)
 }
 
@@ -76,18 +76,18 @@ fn say_layout(rt: &impl Print, h: Head) -> io::Result<()> {
     tell(
         rt,
         b"nodes %, parameters %, locals %",
-        three(h.nodes as u64, h.params, locals_of(h)),
+        &[h.nodes as u64, params_of(h), locals_of(h)],
     )?;
-    if h.dest == 0 {
-        return say(rt, b", no destination\n");
+    match h.dest {
+        Some(d) => tell(rt, b", destination r%\n", &[d.number]),
+        None => say(rt, b", no destination\n"),
     }
-    tell(rt, b", destination r%\n", one(h.dest - 1))
 }
 
 // Each pair, after its number: a register that is given a value, or a constant.
 fn list_pairs(rt: &impl Print, before: &[u8], kinds: &[u8], payloads: &[u64]) -> io::Result<()> {
     for (i, (kind, payload)) in kinds.iter().zip(payloads).enumerate() {
-        tell(rt, before, one(i as u64))?;
+        tell(rt, before, &[i as u64])?;
         say_value(rt, *kind, *payload)?;
         say(rt, b"\n")?;
     }
@@ -111,7 +111,7 @@ fn list(
     tell(
         rt,
         b"result in r%, frame of %\n",
-        two(register as u64, frame as u64),
+        &[register as u64, frame as u64],
     )
 }
 
@@ -124,7 +124,7 @@ fn say_tree(rt: &impl Print, a: Result<Value, Fault>) -> io::Result<bool> {
             Ok(true)
         }
         Err(f) => {
-            tell(rt, b"fault %", one(u64::from(f.number())))?;
+            tell(rt, b"fault %", &[u64::from(f.number())])?;
             say_meaning(rt, f)?;
             Ok(false)
         }
@@ -145,17 +145,15 @@ fn say_evaluated(
     say(rt, b"tree:  ")?;
     say_tree(
         rt,
-        eval::evaluate(nodes, h.params, locals_of(h), &kinds[..n], payloads),
+        eval::evaluate(nodes, params_of(h), locals_of(h), &kinds[..n], payloads),
     )
 }
 
 fn say_steps(rt: &impl Print, n: u64) -> io::Result<()> {
-    tell_line(
-        rt,
-        b" after % steps\n after % step",
-        if n == 1 { 1 } else { 0 },
-        one(n),
-    )
+    if n == 1 {
+        return say(rt, b" after 1 step");
+    }
+    tell(rt, b" after % steps", &[n])
 }
 
 // The value of a register.
@@ -168,7 +166,7 @@ fn say_register(
     if let (Some(kind), Some(payload)) = (kinds.get(register), payloads.get(register)) {
         say_value(rt, *kind, *payload)?;
     }
-    tell(rt, b" in r%", one(register as u64))
+    tell(rt, b" in r%", &[register as u64])
 }
 
 // Whether the words end with a value.
@@ -183,7 +181,7 @@ fn say_run(
         tell(
             rt,
             b"fault % at word %",
-            two(u64::from(f.number()), r.position as u64),
+            &[u64::from(f.number()), r.position as u64],
         )?;
         say_steps(rt, r.steps)?;
         say_meaning(rt, f)?;
@@ -228,7 +226,7 @@ fn is_ready(rt: &impl Print, h: Head) -> io::Result<bool> {
     tell(
         rt,
         b"not run: % of % registers have a value\n",
-        two(h.values as u64, base_of(h)),
+        &[h.values as u64, base_of(h)],
     )?;
     Ok(false)
 }
@@ -271,7 +269,7 @@ fn answers(
             kinds,
             payloads,
             made,
-            h.budget,
+            budget_of(h),
         )?;
         return Ok(joint(tree, ran));
     }
@@ -325,7 +323,7 @@ fn compile(
     let mut slot_payloads = [0u64; SLOTS];
     let c = compile::compile(
         nodes,
-        h.params,
+        params_of(h),
         locals_of(h),
         dest_of(h.dest),
         &mut code,
@@ -349,7 +347,7 @@ fn compile(
 fn check(s: &[u8], nodes: &mut [u64], h: Head) -> Result<(), Fault> {
     table::complete::complete(nodes);
     put_spans(s, nodes);
-    let checked = table::check::check(nodes, h.params, locals_of(h), dest_of(h.dest));
+    let checked = table::check::check(nodes, params_of(h), locals_of(h), dest_of(h.dest));
     if checked.is_err() {
         table::complete::complete(nodes);
     }
