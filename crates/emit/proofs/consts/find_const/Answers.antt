@@ -11,6 +11,3 @@ returns-then-is c = search (seeks, rules)
 
 pub loop-k-preserved : goal.loop-k-preserved
 loop-k-preserved c = search (seeks, rules)
-
-pub returns : goal.returns
-returns c = search (seeks, rules)
