@@ -91,7 +91,10 @@ fn texts(rt: &impl Print, name: &[u8], s: &[u8], t: Totals) -> io::Result<Totals
 
 // Whether a text begins with a byte order mark: that of UTF-8, or one of UTF-16.
 fn is_marked(s: &[u8]) -> bool {
-    matches!(s, [0xef, 0xbb, _, ..] | [0xff, 0xfe, _, ..] | [0xfe, 0xff, _, ..])
+    matches!(
+        s,
+        [0xef, 0xbb, _, ..] | [0xff, 0xfe, _, ..] | [0xfe, 0xff, _, ..]
+    )
 }
 
 fn text(rt: &impl Print, name: &[u8], s: &[u8], t: Totals) -> io::Result<Totals> {

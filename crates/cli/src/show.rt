@@ -1,15 +1,15 @@
 // An expression that could be read: its words, and the values that the tree and the words give.
-use faults::Fault;
-use value::Value;
 use crate::list::list_words;
 use crate::trouble::say_at;
 use crate::why::say_where;
 use compile::buffers::Compiled;
+use faults::Fault;
 use machine::run::Ran;
 use print::{say, say_value, tell};
 use reader::gather::put_spans;
 use reader::head::{Head, NODES, Said, base_of, budget_of, locals_of, params_of};
 use std::io;
+use value::Value;
 
 // What became of an expression.
 #[derive(Clone, Copy)]
@@ -50,7 +50,8 @@ fn meaning(f: Fault) -> &'static [u8] {
         Fault::WrongKind => b"wrong kind of value",
         Fault::Overflow => b"integer result outside 64 bits signed",
         Fault::ModByZero => b"Mod by zero",
-        Fault::NotExact => b"Int outside -2^53..2^53 meets a Float in Add, Sub or Mul, or stands in Div",
+        Fault::NotExact =>
+            b"Int outside -2^53..2^53 meets a Float in Add, Sub or Mul, or stands in Div",
         Fault::BadShift => b"shift amount outside 0..63",
         Fault::BudgetSpent => b"budget spent",
         Fault::OutOfRange => b"register, slot or taken target out of range",
