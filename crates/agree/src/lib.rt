@@ -9,13 +9,13 @@ ghost use Rattle.machine.specs.Run.{out};
 ghost use Rattle.claim.specs.Claim.{Wide};
 ghost use Rattle.claim.specs.Entry.{Whole};
 
-use faults::Fault;
-use value::Value;
 use crate::side_by_side::evaluate_and_run;
 use compile::buffers::Compiled;
 use compile::compile;
 use eval::evaluate;
+use faults::Fault;
 use machine::run::Ran;
+use value::Value;
 
 // What compiling answers, what the tree gives, and what a run of the words reports: of a refused table its fault, and no step.
 #[derive(Clone, Copy)]

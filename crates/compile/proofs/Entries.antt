@@ -1,11 +1,10 @@
 -- What the proofs of `generate`, `compile` and `compile_with` cite: what a checked table gives, from the root's answer.
 use Rattle.std.specs.Prelude.{Option, Some, None, Result, Ok, Err}
 use Rattle.faults.specs.declared.Fault.{Fault}
-use mathlib.Core.Path.{◌≡◌, refl, sym, ap, subst, ◌∙◌}
+use mathlib.Core.Path.{◌≡◌, sym, ap, subst, ◌∙◌}
 use mathlib.Core.List.{List}
-use Prim.Native.Nat.{ℕ, zero, suc, ◌+◌, ◌*◌, ◌-◌, ◌<◌, ◌≤◌}
+use Prim.Native.Nat.{ℕ, ◌+◌, ◌*◌, ◌-◌, ◌<◌, ◌≤◌}
 use native.Mathlib.Omega.{arith}
-use lib.ListN.{length, replicate}
 use Rattle.faults.specs.Limits.{max_nodes, max_registers}
 use Rattle.table.specs.Table.{node_count, temp_base_of, check_of}
 use Rattle.table.specs.Tree.{Tree, tree, size}
@@ -15,9 +14,9 @@ use Rattle.emit.specs.declared.state.St.{St}
 use Rattle.emit.specs.State.{Res, done, fail, State}
 use Rattle.emit.specs.Read.{Bufs, st_of, read, Says}
 use Rattle.codegen.specs.Gen.{gen}
-use Rattle.compile.specs.Compile.{start, dst_of, root_d, generated, accepted, compile_of}
+use Rattle.compile.specs.Compile.{start, dst_of, root_d, generated, compile_of}
 use Rattle.compile.specs.Buffers.{Compiles}
-use Rattle.compile.specs.Parts.{Root, IsRegister, zeroed}
+use Rattle.compile.specs.Parts.{Root, IsRegister}
 use Rattle.codegen.proofs.Room.{same-room, into-same}
 
 -- ---- a checked table
@@ -103,5 +102,3 @@ module _ (ws : List ℕ) (params locals : ℕ) (dest : Option ℕ) (room cap slo
       Compiles q (compile_of ws params locals dest room cap slot_cap) c k p lc lk lp
   unfolding compile_of
   out-passed e h = rw (← e) h
-
-

@@ -5,7 +5,7 @@
 --     prefix-is        what is asked of that part, once the room was looked at, is asked of the records
 --     check-is, evaluate-is, compile-is     what is said of that part, and of a refusal, is said of the records
 --     same_number, same_answer, same-compile     with room for the records, however many they are, all are the word table's
-use Rattle.std.specs.Prelude.{Option, None, Result, Ok, Err}
+use Rattle.std.specs.Prelude.{Option, None, Ok, Err}
 use Prim.Native.Nat.{ℕ, ◌+◌, ◌*◌, ◌/◌, ◌%◌, ◌≤◌, ◌<◌, min}
 use native.Mathlib.Numerals.{add-one}
 use native.Mathlib.Omega.{arith}
@@ -23,12 +23,10 @@ use Rattle.faults.specs.Faults.{Checked, fault, ◌or_else◌}
 use Rattle.faults.specs.Limits.{max_nodes}
 use Rattle.faults.specs.Numbers.{bad_shape}
 use Rattle.table.specs.Table.{shape_fault, check_of}
-use Rattle.value.specs.Answer.{Answer, fault as faulted}
+use Rattle.value.specs.Answer.{fault as faulted}
 use Rattle.eval.specs.Evaluate.{unless, evaluate_of}
 use Rattle.emit.specs.State.{fail}
-use Rattle.compile.specs.Compile.{accepted, compile_of}
-use Rattle.compile.specs.Buffers.{Compiles}
-use Rattle.compile.specs.declared.buffers.Compiled.{Compiled}
+use Rattle.compile.specs.Compile.{compile_of}
 use Rattle.records.specs.Records.{room_fault, words_of, compile_nodes, flat, holding, flattened, check_nodes, evaluate_nodes}
 use Rattle.records.specs.declared.Node.{Node}
 use Rattle.records.proofs.Laws.{many, fits, has_room}
