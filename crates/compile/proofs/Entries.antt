@@ -84,6 +84,10 @@ module _ (ws : List ℕ) (params locals : ℕ) (dest : Option ℕ) (cap slot_cap
       Compiles q (generated (tree ws (node_count ws - 1)) dest (params + locals) max_nodes cap slot_cap) c k p lc lk lp
   enough-places places h few m = compiles-by (enough ws params locals dest places cap slot_cap h few) m
 
+  pub places-for-all : (places : ℕ) → check_of ws params locals dest ≡ Ok tt → max_nodes ≤ 2 * places → Compiles q (generated (tree ws (node_count ws - 1)) dest (params + locals) places cap slot_cap) c k p lc lk lp →
+      Compiles q (generated (tree ws (node_count ws - 1)) dest (params + locals) max_nodes cap slot_cap) c k p lc lk lp
+  places-for-all places h all = let a = few-enough ws params locals dest h in enough-places places h (omega arith)
+
 -- `listed`: the list grows at each call, and the one that is taken is for at least as many nodes as there are
 pub longer : {t most : ℕ} → 32768 - most ≡ t → 0 < most → most ≤ 4096 → 32768 - 8 * most < t
 longer e h k = omega arith
