@@ -90,10 +90,8 @@ fn settle(
 #[tactic(auto, unfolding(crate::specs::Step::word_effect))]
 fn word_effect(
     w: u64,
-    kinds: &[u8],
-    payloads: &[u64],
-    slot_kinds: &[u8],
-    slot_payloads: &[u64],
+    registers: Pairs<'_>,
+    slots: Pairs<'_>,
 ) -> Effect
     ensures { asked result
         ≡ St.word_effect (held kinds.now payloads.now) (held slot_kinds.now slot_payloads.now) w }
