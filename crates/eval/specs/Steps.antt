@@ -2,11 +2,10 @@
 use Rattle.std.specs.Prelude.{ℕ, ◌≡◌, true, false, cond, List, [], ◌∷◌, eqb, length, get_or}
 use Rattle.std.specs.Int.{w64}
 use Rattle.std.proofs.Common.{to_z}
-use Rattle.faults.specs.Numbers.{ill_formed}
-use Rattle.value.specs.Value.{Datum, nil, bool, int, float, Read, well, ill, all_well}
+use Rattle.value.specs.Value.{Datum, nil, bool, int, float, all_well}
 use Rattle.ops.specs.Ops as Ops
 use Rattle.ops.specs.Not as Not
-use Rattle.value.specs.Answer.{Answer, is, fault}
+use Rattle.value.specs.Answer.{Answer, is}
 use Rattle.eval.specs.declared.next.Rule.{Rule}
 use Rattle.eval.specs.declared.next.Rule.TheVariants as R
 use Rattle.eval.specs.Apply.{on, both, test}

@@ -8,10 +8,11 @@ ghost use Rattle.machine.specs.Step.{after, lent};
 ghost use Rattle.machine.specs.Parts.{told_of};
 
 use decode::decode;
-use effect::{Effect, effect_of, room};
+use effect::{Effect, effect_of};
 use faults::Fault;
 use insns::bits::magnitude;
 use insns::op::Disp;
+use value::pairs::Pairs;
 use value::{Value, kind_of, payload_of};
 
 // A taken branch. `magnitude` of a negative z is -z - 1, so that its target at + 1 + z is at - m, and no sum here can wrap.
@@ -57,7 +58,13 @@ fn put(
     ensures { after result kinds.new payloads.new
         ≡ lent kinds.old payloads.old (St.write_of (size kinds.old payloads.old) at d (result_of a)) }
 {
-    if room(kinds, payloads) <= d {
+    if (Pairs {
+        kinds: &*kinds,
+        payloads: &*payloads,
+    })
+    .len()
+        <= d
+    {
         return Err(Fault::OutOfRange);
     }
     let v = a?;
@@ -88,18 +95,15 @@ fn settle(
 
 // What the word asks for: 10 if it does not decode.
 #[tactic(auto, unfolding(crate::specs::Step::word_effect))]
-fn word_effect(
-    w: u64,
-    registers: Pairs<'_>,
-    slots: Pairs<'_>,
-) -> Effect
+fn word_effect(w: u64, registers: Pairs<'_>, slots: Pairs<'_>) -> Effect
     ensures { asked result
-        ≡ St.word_effect (held kinds.now payloads.now) (held slot_kinds.now slot_payloads.now) w }
+        ≡ St.word_effect (held registers.entry.kinds.now registers.entry.payloads.now)
+        (held slots.entry.kinds.now slots.entry.payloads.now) w }
 {
     let Some(i) = decode(w) else {
         return Effect::Halt(Fault::Undecoded);
     };
-    effect_of(i, kinds, payloads, slot_kinds, slot_payloads)
+    effect_of(i, registers, slots)
 }
 
 // The step at a position of the code. Nothing is written before the word is decoded, its operands read and its faults known.
@@ -116,6 +120,14 @@ pub fn step(
     ensures { after result kinds.new payloads.new
         ≡ St.step_of words.now slot_kinds.now slot_payloads.now at kinds.old payloads.old }
 {
-    let e = word_effect(words[at], kinds, payloads, slot_kinds, slot_payloads);
+    let registers = Pairs {
+        kinds: &*kinds,
+        payloads: &*payloads,
+    };
+    let slots = Pairs {
+        kinds: slot_kinds,
+        payloads: slot_payloads,
+    };
+    let e = word_effect(words[at], registers, slots);
     settle(words.len(), at, e, kinds, payloads)
 }

@@ -6,11 +6,11 @@ ghost use Rattle.fast.specs.Plan.{Within};
 ghost use Rattle.machine.specs.Step.{after, step_of};
 ghost use Rattle.machine.specs.Run.{out, run_from, run_of, run_part_of};
 
-use faults::Fault;
 use fast::step::quick_step;
+use faults::Fault;
 use machine::run::Ran;
 use machine::step::step;
-use value::pairs::all_well;
+use value::pairs::Pairs;
 
 // The least of three: a bound on the registers or slots that the quick step looks at. Any smaller one would do, at the cost of speed alone.
 fn least(a: usize, b: usize, c: usize) -> usize
@@ -140,14 +140,22 @@ pub fn run(
             position: start,
         };
     }
-    if !all_well(kinds, payloads) {
+    let registers = Pairs {
+        kinds: &*kinds,
+        payloads: &*payloads,
+    };
+    if !registers.all_well() {
         return Ran {
             end: Err(Fault::IllFormed),
             steps: 0,
             position: 0,
         };
     }
-    if !all_well(slot_kinds, slot_payloads) {
+    let slots = Pairs {
+        kinds: slot_kinds,
+        payloads: slot_payloads,
+    };
+    if !slots.all_well() {
         return Ran {
             end: Err(Fault::IllFormed),
             steps: 0,
