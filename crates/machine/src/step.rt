@@ -1,7 +1,7 @@
 // One step: the word at a position is decoded, and its effect carried out.
 ghost use Rattle.std.specs.Prelude.{◌≡◌, ◌<◌, length};
 ghost use Rattle.value.specs.Answer.{result_of};
-ghost use Rattle.value.specs.Refs.{SameRefs};
+ghost use Rattle.value.specs.Refs.{SameSlices};
 ghost use Rattle.effect.specs.Effect.{size, held};
 ghost use Rattle.effect.specs.Forms.{asked};
 ghost use Rattle.machine.specs.Step as St;
@@ -58,7 +58,7 @@ fn put(
     ensures value { after result registers.new.kinds.now registers.new.payloads.now
         ≡ lent registers.old.kinds.now registers.old.payloads.now
         (St.write_of (size registers.old.kinds.now registers.old.payloads.now) at d (result_of a)) }
-    ensures same_slices { SameRefs registers.old registers.new }
+    ensures same_slices { SameSlices registers.old registers.new }
 {
     if registers.shared().len() <= d {
         return Err(Fault::OutOfRange);
@@ -75,7 +75,7 @@ fn settle(len: usize, at: usize, e: Effect, registers: &mut PairsMut<'_>) -> Res
     ensures value { after result registers.new.kinds.now registers.new.payloads.now
         ≡ lent registers.old.kinds.now registers.old.payloads.now
         (St.settle_of len (size registers.old.kinds.now registers.old.payloads.now) at (asked e)) }
-    ensures same_slices { SameRefs registers.old registers.new }
+    ensures same_slices { SameSlices registers.old registers.new }
 {
     match e {
         Effect::Write(d, a) => put(len, at, d as usize, a, registers),
@@ -110,7 +110,7 @@ pub fn step(
     ensures value { after result registers.new.kinds.now registers.new.payloads.now
         ≡ St.step_of words.now slots.entry.kinds.now slots.entry.payloads.now at
         registers.old.kinds.now registers.old.payloads.now }
-    ensures same_slices { SameRefs registers.old registers.new }
+    ensures same_slices { SameSlices registers.old registers.new }
 {
     let e = word_effect(words[at], registers.shared(), slots);
     settle(words.len(), at, e, registers)

@@ -1,7 +1,8 @@
 // A run with a budget, and the run of a part of a store.
 #![tactic(auto)]
 
-ghost use Rattle.std.specs.Prelude.{◌≡◌, length, ◌<◌, ◌≤◌};
+ghost use Rattle.std.specs.Prelude.{◌≡◌, length, ◌<◌};
+ghost use Rattle.value.specs.Refs.{SameSlices};
 ghost use Rattle.fast.specs.Plan.{Within};
 ghost use Rattle.machine.specs.Step.{after, step_of};
 ghost use Rattle.machine.specs.Run.{out, run_from, run_of, run_part_of};
@@ -10,54 +11,37 @@ use fast::step::quick_step;
 use faults::Fault;
 use machine::run::Ran;
 use machine::step::step;
-use value::pairs::Pairs;
+use value::pairs::{Pairs, PairsMut};
 
-// The least of three: a bound on the registers or slots that the quick step looks at. Any smaller one would do, at the cost of speed alone.
-fn least(a: usize, b: usize, c: usize) -> usize
-    ensures upper_bound { result ≤ a }
-    ensures upper_bound_2 { result ≤ b }
-    ensures upper_bound_3 { result ≤ c }
-{
-    if a < b {
-        if a < c {
-            return a;
-        }
-        return c;
-    }
-    if b < c {
-        return b;
-    }
-    c
-}
-
-// The step at a position: the quick one where it is taken, else the general one.
+// The step at a position: the quick one where it is taken, else the general one. `room` and `slot_room` are the registers and slots that the
+// quick step looks at: any smaller ones would do, at the cost of speed alone.
 fn next(
     words: &[u64],
     at: usize,
     room: usize,
-    kinds: &mut [u8],
-    payloads: &mut [u64],
-    slots: usize,
-    slot_kinds: &[u8],
-    slot_payloads: &[u64],
+    registers: &mut PairsMut<'_>,
+    slot_room: usize,
+    slots: Pairs<'_>,
 ) -> Result<usize, Fault>
     requires at_in_bounds { at < length words.now }
-    requires within { Within 16 room kinds.old payloads.old }
-    requires within_2 { Within 32 slots slot_kinds.now slot_payloads.now }
-    ensures { after result kinds.new payloads.new
-        ≡ step_of words.now slot_kinds.now slot_payloads.now at kinds.old payloads.old }
+    requires within { Within 16 room registers.old.kinds.now registers.old.payloads.now }
+    requires within_2 { Within 32 slot_room slots.kinds.now slots.payloads.now }
+    ensures value { after result registers.new.kinds.now registers.new.payloads.now
+        ≡ step_of words.now slots.entry.kinds.now slots.entry.payloads.now at
+        registers.old.kinds.now registers.old.payloads.now }
+    ensures same_slices { SameSlices registers.old registers.new }
 {
     let Some(p) = quick_step(
         words,
         at,
         room,
-        kinds,
-        payloads,
-        slots,
-        slot_kinds,
-        slot_payloads,
+        registers.kinds,
+        registers.payloads,
+        slot_room,
+        slots.kinds,
+        slots.payloads,
     ) else {
-        return step(words, at, kinds, payloads, slot_kinds, slot_payloads);
+        return step(words, at, registers, slots);
     };
     Ok(p)
 }
@@ -66,18 +50,17 @@ fn next(
 fn run_from(
     words: &[u64],
     start: usize,
-    kinds: &mut [u8],
-    payloads: &mut [u64],
-    slot_kinds: &[u8],
-    slot_payloads: &[u64],
+    registers: &mut PairsMut<'_>,
+    slots: Pairs<'_>,
     budget: u64,
 ) -> Ran
-    ensures { out result kinds.new payloads.new
-        ≡ run_from words.now slot_kinds.now slot_payloads.now budget 0 start
-        kinds.old payloads.old }
+    ensures value { out result registers.new.kinds.now registers.new.payloads.now
+        ≡ run_from words.now slots.entry.kinds.now slots.entry.payloads.now budget 0 start
+        registers.old.kinds.now registers.old.payloads.now }
+    ensures same_slices { SameSlices registers.old registers.new }
 {
-    let room = least(kinds.len(), payloads.len(), 0x1_0000);
-    let slots = least(slot_kinds.len(), slot_payloads.len(), 0x1_0000_0000);
+    let room = registers.shared().len().min(0x1_0000);
+    let slot_room = slots.len().min(0x1_0000_0000);
     let mut at = start;
     let mut steps = 0;
     while at < words.len() {
@@ -90,16 +73,7 @@ fn run_from(
         }
         let before = steps;
         steps += 1;
-        match next(
-            words,
-            at,
-            room,
-            kinds,
-            payloads,
-            slots,
-            slot_kinds,
-            slot_payloads,
-        ) {
+        match next(words, at, room, registers, slot_room, slots) {
             Ok(p) => {
                 at = p;
             }
@@ -140,21 +114,18 @@ pub fn run(
             position: start,
         };
     }
-    let registers = Pairs {
-        kinds: &*kinds,
-        payloads: &*payloads,
+    let mut registers = PairsMut { kinds, payloads };
+    let slots = Pairs {
+        kinds: slot_kinds,
+        payloads: slot_payloads,
     };
-    if !registers.all_well() {
+    if !registers.shared().all_well() {
         return Ran {
             end: Err(Fault::IllFormed),
             steps: 0,
             position: 0,
         };
     }
-    let slots = Pairs {
-        kinds: slot_kinds,
-        payloads: slot_payloads,
-    };
     if !slots.all_well() {
         return Ran {
             end: Err(Fault::IllFormed),
@@ -162,15 +133,7 @@ pub fn run(
             position: 0,
         };
     }
-    run_from(
-        words,
-        start,
-        kinds,
-        payloads,
-        slot_kinds,
-        slot_payloads,
-        budget,
-    )
+    run_from(words, start, &mut registers, slots, budget)
 }
 
 // Runs a part of a store: the runner is lent only the words from its entry to its end, so that no jump leaves the part. Its position

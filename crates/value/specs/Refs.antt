@@ -1,6 +1,8 @@
--- Plumbing: which slices a `PairsMut` holds. Who lent them learns what was written only where these stay.
-use Rattle.std.specs.Prelude.{◌≡◌}
+-- Plumbing: a `PairsMut` that still holds the slices that it held, each as long as it was. Who lent them learns what was written only where this is so.
+use Rattle.std.specs.Prelude.{◌≡◌, length}
 use Rattle.value.specs.declared.pairs.PairsMut.{PairsMut}
 
-abbrev pub SameRefs : PairsMut → PairsMut → Type 0
-SameRefs p q = (q.kinds.ghost_name ≡ p.kinds.ghost_name) × (q.payloads.ghost_name ≡ p.payloads.ghost_name)
+abbrev pub SameSlices : PairsMut → PairsMut → Type 0
+SameSlices p q =
+    (q.kinds.ghost_name ≡ p.kinds.ghost_name) × (q.payloads.ghost_name ≡ p.payloads.ghost_name)
+    × (length q.kinds.now ≡ length p.kinds.now) × (length q.payloads.now ≡ length p.payloads.now)
