@@ -20,6 +20,7 @@ use std::io::{Cursor, Read, Write};
 use std::rt::Files;
 use std::{fs, io, str};
 use text::scan::find;
+use value::pairs::PairsMut;
 
 // Room for a text, for the nodes of an expression that is shown, and for as many values as there are registers.
 const TEXT: usize = 262144;
@@ -59,7 +60,11 @@ fn shown(rt: &impl Print, name: &[u8], s: &[u8], line: u64, h: Head) -> io::Resu
     let mut payloads = [0u64; VALUES];
     put_nodes(s, &mut nodes);
     put_values(s, &mut kinds, &mut payloads);
-    show(rt, name, s, line, &mut nodes, &mut kinds, &mut payloads, h)
+    let mut registers = PairsMut {
+        kinds: &mut kinds,
+        payloads: &mut payloads,
+    };
+    show(rt, name, s, line, &mut nodes, &mut registers, h)
 }
 
 fn expression(rt: &impl Print, name: &[u8], s: &[u8], line: u64, h: Head) -> io::Result<Outcome> {
@@ -92,7 +97,10 @@ fn texts(rt: &impl Print, name: &[u8], s: &[u8], t: Totals) -> io::Result<Totals
 
 // Whether a text begins with a byte order mark: that of UTF-8, or one of UTF-16.
 fn is_marked(s: &[u8]) -> bool {
-    matches!(s, [0xef, 0xbb, _, ..] | [0xff, 0xfe, _, ..] | [0xfe, 0xff, _, ..])
+    matches!(
+        s,
+        [0xef, 0xbb, _, ..] | [0xff, 0xfe, _, ..] | [0xfe, 0xff, _, ..]
+    )
 }
 
 fn text(rt: &impl Print, name: &[u8], s: &[u8], t: Totals) -> io::Result<Totals> {
