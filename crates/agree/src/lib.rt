@@ -6,15 +6,16 @@ pub mod side_by_side;
 ghost use Rattle.std.specs.Prelude.{length};
 ghost use Rattle.value.specs.Answer.{result_of};
 ghost use Rattle.machine.specs.Run.{out};
+ghost use Rattle.claim.specs.Claim.{Wide};
 ghost use Rattle.claim.specs.Entry.{Whole};
 
-use faults::Fault;
-use value::Value;
 use crate::side_by_side::evaluate_and_run;
 use compile::buffers::Compiled;
 use compile::compile;
 use eval::evaluate;
+use faults::Fault;
 use machine::run::Ran;
+use value::Value;
 
 // What compiling answers, what the tree gives, and what a run of the words reports: of a refused table its fault, and no step.
 #[derive(Clone, Copy)]
@@ -23,6 +24,11 @@ pub struct Tried {
     pub tree: Result<Value, Fault>,
     pub ran: Ran,
 }
+
+// Every word of a slice is below 2^64: its type says so, and here it is said as the claim needs it. Nothing is computed.
+fn are_wide(xs: &[u64])
+    ensures { Wide xs.now }
+{}
 
 // Compiles a table into lent buffers, evaluates it on the registers' values, and runs its words with those registers and the slots that compiling left.
 pub fn compile_evaluate_and_run(
@@ -43,6 +49,8 @@ pub fn compile_evaluate_and_run(
         result.compiled code.new slot_kinds.new slot_payloads.new
         (result_of result.tree) (out result.ran kinds.new payloads.new) }
 {
+    are_wide(nodes);
+    are_wide(payloads);
     let compiled = compile(nodes, params, locals, dest, code, slot_kinds, slot_payloads);
     match compiled {
         Ok(made) => {

@@ -3,11 +3,11 @@ ghost use Rattle.value.specs.Answer.{result_of};
 ghost use Rattle.machine.specs.Run.{out};
 ghost use Rattle.claim.specs.Entry.{Promised};
 
-use faults::Fault;
-use value::Value;
 use eval::evaluate;
+use faults::Fault;
 use machine::run::Ran;
 use run::run;
+use value::Value;
 
 // What a run reports, and what the tree gives.
 #[derive(Clone, Copy)]

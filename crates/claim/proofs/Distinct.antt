@@ -26,7 +26,7 @@ use Rattle.emit.specs.Steps.{raw_true, raw_false}
 use Rattle.emit.specs.State.{State, alike, seek, fresh}
 use Rattle.emit.proofs.ConstLaws.{int_same}
 use Rattle.codegen.specs.Gen.{same}
-use Rattle.claim.specs.Shared.{Loaded, Shared, SharesSlots}
+use Rattle.claim.specs.Shared.{Loaded, SharesSlots}
 use Rattle.claim.proofs.fragments.Frag.{Vf, Bf, ValueF, BranchF, Frag, d_reg, d_next, const_op, jmp_by, moved, load_f, leaf_f, int_f, into_f, second, join_f, arith_f, tail_f, compare_f, cond_f, tern_f, junc_b, unary_n, binary_n, frag}
 use Rattle.claim.proofs.fragments.Fits.{word, words_of, Fits, made, AllFit}
 use Rattle.claim.proofs.fragments.Shared.{seek-none}

@@ -3,7 +3,7 @@ use Rattle.std.specs.Prelude.{Option, Some, None, Ok, Err}
 use mathlib.Core.Path.{◌≡◌, refl, sym, ap, subst, ◌∙◌}
 use mathlib.Core.Bool.{Bool, true, false, not, ◌&&◌, ◌||◌}
 use mathlib.Core.List.{List, [], ◌∷◌, ◌++◌}
-use Prim.Native.Nat.{ℕ, zero, suc, ◌+◌, ◌%◌, ◌≤◌, ◌<◌}
+use Prim.Native.Nat.{ℕ, zero, suc, ◌+◌, ◌%◌, ◌<◌}
 use native.Mathlib.Omega.{arith}
 use lib.Dec.{leb, ltb, eqb}
 use lib.ListN.{length, get_or}
@@ -37,7 +37,7 @@ use Rattle.emit.specs.State.{State, seek}
 use Rattle.claim.specs.Claim.{Accepted}
 use Rattle.claim.specs.Refusals.{needed}
 use Rattle.claim.specs.Emitted.{is_emitted, is_nop, opcode_of, halts, IsEmitted, EmittedBySome, RunsWhatIsEmitted}
-use Rattle.claim.proofs.fragments.Frag.{Vf, frag}
+use Rattle.claim.proofs.fragments.Frag.{frag}
 use Rattle.claim.proofs.fragments.Fits.{word, words_of, Fits, made, AllFit}
 use Rattle.claim.proofs.fragments.Whole.{words-length}
 use Rattle.claim.proofs.fragments.Laws.{and_both}

@@ -1,15 +1,12 @@
--- One call that compiles, evaluates and runs: what it is lent is 64-bit words, and its two ways out are as claimed.
+-- One call that compiles, evaluates and runs: its two ways out are as claimed.
 use Rattle.std.specs.Prelude.{Option, Result, Ok, Err}
 use Rattle.faults.specs.declared.Fault.{Fault}
-use mathlib.Core.Path.{◌≡◌, refl, sym, ap, ◌∙◌, subst}
-use mathlib.Core.Bool.{Bool, true, false}
-use mathlib.Core.List.{List, ◌++◌, map}
-use Prim.Native.Nat.{ℕ, ◌+◌, ◌-◌, ◌≤◌, ◌<◌, ◌^◌, min}
+use mathlib.Core.Path.{◌≡◌, refl, sym, ap, ◌∙◌}
+use mathlib.Core.List.{List}
+use Prim.Native.Nat.{ℕ, ◌-◌, ◌≤◌, min}
 use native.Mathlib.Omega.{arith}
-use lib.Dec.{ltb}
-use lib.ListN.{length, get_or, take, replicate, length-append, get_or-eq_default}
+use lib.ListN.{length, take, replicate, length-append}
 use lib.Seq.{take_at, length-take-le}
-use borrow.Author.Tests.{ltb-true, ltb-false}
 use Rattle.faults.specs.Limits.{max_nodes}
 use Rattle.value.specs.Answer.{Answer}
 use Rattle.eval.specs.Evaluate.{evaluate_of}
@@ -19,37 +16,10 @@ use Rattle.compile.specs.declared.buffers.Compiled.{Compiled}
 use Rattle.compile.specs.Compile.{compile_of}
 use Rattle.compile.specs.Buffers.{Compiles, padded, words_of}
 use Rattle.compile.proofs.Once.{Alike, compiles-once}
-use Rattle.claim.specs.Claim.{Accepted, Wide, Slots}
+use Rattle.claim.specs.Claim.{Accepted, Wide}
 use Rattle.claim.specs.Entry.{Promised, Whole}
 use Rattle.claim.proofs.Theorem.{slots-left}
 use Rattle.claim.proofs.Refusals.{refusals}
-
--- ---- 64-bit words, seen one after the other
-
--- those before i are
-pub record Seen (xs : List ℕ) (i : ℕ) : Type 0 where
-  pub place : i ≤ length xs
-  pub wide : (j : ℕ) → j < i → get_or xs j 0 < 2 ^ 64
-
-pub seen_none : (xs : List ℕ) → Seen xs 0
-seen_none xs = record { place = omega arith; wide = λ j h. absurd (omega arith) }
-
-pub seen_more : {xs : List ℕ} {i : ℕ} → i < length xs → get_or xs i 0 < 2 ^ 64 → Seen xs i → Seen xs (i + 1)
-seen_more {xs} {i} here h s = record { place = omega arith; wide = λ j k. go j k (ltb j i) refl }
-  where
-    go : (j : ℕ) → j < i + 1 → (b : Bool) → ltb j i ≡ b → get_or xs j 0 < 2 ^ 64
-    go j k true e = s.wide j (ltb-true j i e)
-    go j k false e = let x = ltb-false j i e in let z : j ≡ i = omega arith in rw z h
-
-pub seen_all : {xs : List ℕ} {i : ℕ} → length xs ≤ i → Seen xs i → Wide xs
-seen_all {xs} {i} end s j = go (ltb j i) refl
-  where
-    go : (b : Bool) → ltb j i ≡ b → get_or xs j 0 < 2 ^ 64
-    go true e = s.wide j (ltb-true j i e)
-    go false e =
-        let x = ltb-false j i e in
-        let z = s.place in
-        rw (get_or-eq_default xs 0 {n = j} (omega arith)) (omega arith)
 
 -- ---- what compiling answered and left
 

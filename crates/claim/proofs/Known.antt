@@ -2,12 +2,11 @@
 use Rattle.std.specs.Prelude.{Option, Some, None, Result, Ok, Err}
 use Rattle.faults.specs.declared.Fault.{Fault}
 use Rattle.faults.specs.Numbers.{not_local}
-use mathlib.Core.Path.{◌≡◌, refl, sym, ap, subst, ◌∙◌}
+use mathlib.Core.Path.{◌≡◌, refl, ap}
 use mathlib.Core.List.{List, []}
-use Prim.Native.Nat.{ℕ, zero, suc, ◌+◌, ◌-◌, ◌*◌, ◌≤◌, ◌<◌, ◌^◌, max}
+use Prim.Native.Nat.{ℕ, suc, ◌+◌, ◌-◌, ◌*◌, ◌≤◌, ◌<◌, ◌^◌, max}
 use native.Mathlib.Omega.{arith}
 use lib.Dec.{leb}
-use lib.ListN.{length}
 use borrow.Author.Tests.{leb-false}
 use Rattle.faults.specs.Faults.{none, ◌or_else◌}
 use Rattle.faults.specs.Limits.{max_registers}
@@ -15,14 +14,14 @@ use Rattle.faults.proofs.Faults.{none_both, failed}
 use Rattle.table.specs.Table.{node_count, depth_at, temp_base_of, shape_fault, layout_fault, dest_fault, nodes_fault, last_fault, check_of}
 use Rattle.table.specs.Tree.{Tree, tree, RefsBelow}
 use Rattle.table.proofs.Whole as Table
-use Rattle.emit.specs.State.{Res, done, fail, State}
+use Rattle.emit.specs.State.{Res, done, State}
 use Rattle.codegen.specs.Gen.{gen}
 use Rattle.compile.specs.Compile.{start, dst_of, root_d, generated, accepted, compile_of}
 use Rattle.claim.specs.Claim.{Accepted}
 use Rattle.claim.specs.Refusals.{Amounts, literals, needed}
 use Rattle.claim.proofs.Literals.{few-literals, tree-literals}
 use Rattle.claim.proofs.fragments.Frag.{Vf, frag, into_f}
-use Rattle.claim.proofs.fragments.Fits.{words_of, AllFit, far}
+use Rattle.claim.proofs.fragments.Fits.{words_of, far}
 use Rattle.claim.proofs.fragments.Needs.{needs, closed}
 use Rattle.claim.proofs.fragments.Steps.{Met, met, refused, met-then, Lacking, st}
 use Rattle.claim.proofs.fragments.Bridge.{FineI, Ahead, gen-met, into-met}

@@ -1,11 +1,10 @@
 -- The slots that a table's tree can take are no more than the table has literals.
-use mathlib.Core.Path.{◌≡◌, refl, ap, subst}
+use mathlib.Core.Path.{◌≡◌, ap, subst}
 use mathlib.Core.Bool.{Bool, true, false, cond}
 use mathlib.Core.List.{List}
-use Prim.Native.Nat.{ℕ, zero, suc, ◌+◌, ◌-◌, ◌≤◌, ◌<◌}
+use Prim.Native.Nat.{ℕ, zero, suc, ◌+◌, ◌≤◌}
 use native.Mathlib.Omega.{arith}
 use lib.Dec.{eqb}
-use lib.ListN.{get_or}
 use Rattle.table.specs.Table.{kind_at, payload_at, first_at, child1, child2, child3}
 use Rattle.table.specs.Nodes.{Node, Child}
 use Rattle.table.specs.Tree.{Leaf, Kind, leaf_kind, unary_kind, binary_kind, ternary_kind, no_kind, kind_of, tree}

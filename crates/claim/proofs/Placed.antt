@@ -17,7 +17,7 @@ use Rattle.fold.specs.Opcodes.{three_of}
 use Rattle.emit.specs.State.{State}
 use Rattle.claim.specs.Claim.{Accepted, Placed, home_of, register_of}
 use Rattle.claim.proofs.fragments.Frag.{Vf, ValueF, int_f, arith_f, frag}
-use Rattle.claim.proofs.Known.{DestLow, low-more, whole, made, checked, known}
+use Rattle.claim.proofs.Known.{DestLow, low-more, whole, checked, known}
 
 -- a fragment's register, and that it is below what the fragment reaches
 record At (n home : ℕ) (F : Vf) : Type 0 where

@@ -5,20 +5,19 @@ use mathlib.Core.Bool.{Bool, true, false}
 use mathlib.Core.List.{List}
 use Prim.Native.Nat.{ℕ, zero, suc, ◌+◌, ◌-◌, ◌≤◌, ◌<◌, max}
 use native.Mathlib.Omega.{arith}
-use lib.ListN.{length}
 use Rattle.faults.specs.declared.Fault.{Fault}
 use Rattle.faults.specs.declared.Fault.TheVariants as F
 use Rattle.faults.specs.Faults.{Checked, none, fault, ◌or_else◌}
 use Rattle.faults.specs.Numbers.{bad_shape, no_register, no_room, number, number_of}
-use Rattle.table.specs.Table.{node_count, kind_at, payload_at, first_at, depth_at, arity, temp_base_of, kind_fault, children, span_fault, limit_fault, node_fault, nodes_fault, shape_fault, layout_fault, dest_fault, last_fault, check_of}
+use Rattle.table.specs.Table.{node_count, kind_at, payload_at, first_at, depth_at, arity, kind_fault, children, span_fault, node_fault, nodes_fault, shape_fault, layout_fault, dest_fault, last_fault, check_of}
 use Rattle.table.specs.Tree.{tree}
 use Rattle.emit.specs.State.{Res, done, fail, State}
 use Rattle.compile.specs.Compile.{generated, accepted, compile_of}
 use Rattle.claim.specs.Claim.{Accepted}
-use Rattle.claim.specs.Refusals.{Amounts, needed, lent, Takes, Lacks, register, slot, word, place, Enough, TableOrRegisters, table, registers, Refusals, RefusalsOf}
+use Rattle.claim.specs.Refusals.{Amounts, needed, lent, Takes, Lacks, register, slot, word, place, Enough, TableOrRegisters, table, registers, RefusalsOf}
 use Rattle.claim.proofs.fragments.Steps.{Met, met, refused}
 use Rattle.claim.proofs.fragments.Whole.{words-length}
-use Rattle.claim.proofs.Known.{checked, made, frag_of, table-met, Known, known}
+use Rattle.claim.proofs.Known.{checked, frag_of, table-met, known}
 
 -- ---- the check's number is 1 to 5
 

@@ -1,12 +1,11 @@
 -- The generator's register counter is that of `regs`.
 use mathlib.Core.Path.{◌≡◌, refl}
-use mathlib.Core.Bool.{Bool, true, false, cond}
-use Prim.Native.Nat.{ℕ, ◌+◌, ◌≤◌, ◌<◌, max}
+use mathlib.Core.Bool.{Bool, true, false}
+use Prim.Native.Nat.{ℕ, ◌+◌}
 use native.Mathlib.Omega.{arith}
 use lib.Dec.{ltb}
 use borrow.Author.Tests.{ltb-true, ltb-false, lt-ltb, le-ltb}
 use Rattle.faults.specs.Limits.{max_registers}
-use Rattle.table.specs.Table.{temp_base_of}
 use Rattle.regs.specs.Counter.{fresh, allocated}
 use Rattle.emit.specs.State.{State, alloc_d}
 use Rattle.claim.specs.Registers.{counter_of, taken, SameCounter}

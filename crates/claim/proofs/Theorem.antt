@@ -10,8 +10,7 @@ use lib.ListN.{length, get_or, take}
 use lib.Seq.{get_or-take}
 use borrow.Author.Tests.{le-ltb}
 use Rattle.faults.specs.Faults as Faults
-use Rattle.faults.proofs.Faults.{none_both}
-use Rattle.table.specs.Table.{node_count, temp_base_of, shape_fault, layout_fault, dest_fault, nodes_fault, last_fault, check_of}
+use Rattle.table.specs.Table.{node_count, temp_base_of, dest_fault, check_of}
 use Rattle.table.specs.Tree.{Tree, tree, RefsBelow}
 use Rattle.value.specs.Value.{Datum, nil, kind_of, payload_of, of_pair, is_well, datum_of, datums, all_well}
 use Rattle.value.specs.Answer.{Answer, is, fault}
@@ -24,7 +23,7 @@ use Rattle.machine.specs.declared.run.Ran.{Ran}
 use Rattle.emit.specs.State.{State}
 use Rattle.compile.specs.Compile.{dst_of}
 use Rattle.compile.specs.Buffers.{padded}
-use Rattle.claim.specs.Claim.{reported, kinds_left, payloads_left, HasValue, InDest, Unchanged, NotDest, Kept, Agrees, Alike, Accepted, Values, Slots, Supplied, Demand3}
+use Rattle.claim.specs.Claim.{reported, kinds_left, payloads_left, HasValue, InDest, Unchanged, NotDest, Kept, Agrees, Accepted, Values, Slots, Supplied, Demand3}
 use Rattle.claim.specs.Entry.{Promised}
 use Rattle.claim.proofs.fragments.Frag.{Vf, frag, NotDst}
 use Rattle.claim.proofs.fragments.Fits.{words_of, AllFit}
@@ -35,7 +34,7 @@ use Rattle.claim.proofs.fragments.Trees.{sound}
 use Rattle.claim.proofs.fragments.Whole.{at_self, words-length, Told, Left, Fixed, fixed}
 use Rattle.claim.proofs.Consts.{AllHeld, TreeHeld, frag-held, tree-held, left-slots}
 use Rattle.claim.proofs.Pairs.{Wide, wide-values, run-same, same-report, same-wide, pair_is}
-use Rattle.claim.proofs.Known.{DestLow, low-more, whole, made, check-parts, Checked, checked, frag_of, known}
+use Rattle.claim.proofs.Known.{DestLow, low-more, whole, made, check-parts, checked, frag_of, known}
 
 -- ---- the fragment of a whole expression, run alone
 

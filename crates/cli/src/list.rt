@@ -1,19 +1,11 @@
 // The listing: each word with its position, its name and its operands; a jump with the position that it goes to.
 use insns::op::Op;
 use operands::of_op::{PlainOp, plain_op};
-use print::{Numbers, say, tell, tell_line, two};
+use print::{say, tell, tell_line};
 use std::io;
 
 // The 77 opcodes by their numbers: a name and its operands. A literal has `~`, a target `@`, the raw bits of a value `$`.
 fn say_parts(rt: &impl Print, p: PlainOp, at: u64) -> io::Result<()> {
-    let n = Numbers {
-        a: p.a,
-        b: p.b,
-        c: p.c,
-        d: p.d,
-        e: p.e,
-        at: at,
-    };
     tell_line(
         rt,
         b"panic\n\
@@ -94,7 +86,8 @@ fn say_parts(rt: &impl Print, p: PlainOp, at: u64) -> io::Result<()> {
           ret r%\n\
           ret_imm40 $",
         p.opcode,
-        n,
+        &[p.a, p.b, p.c, p.d, p.e],
+        at,
     )
 }
 
@@ -106,7 +99,7 @@ fn say_decoded(rt: &impl Print, d: Option<Op>, at: u64) -> io::Result<()> {
 }
 
 fn list_word(rt: &impl Print, at: u64, w: u64) -> io::Result<()> {
-    tell(rt, b"&  #  ", two(at, w))?;
+    tell(rt, b"&  #  ", &[at, w])?;
     say_decoded(rt, decode::decode(w), at)?;
     say(rt, b"\n")
 }

@@ -2,8 +2,6 @@
 // It reads the files that are named, and standard input for a file called -. A line of three dashes separates two expressions.
 #![tactic(auto)]
 
-ghost use Rattle.std.specs.Prelude.{◌≤◌, length, IfOk};
-
 mod gather;
 mod list;
 mod show;
@@ -12,9 +10,10 @@ mod why;
 
 use crate::gather::head_of;
 use crate::show::{Outcome, show};
-use print::{four, say, tell};
+use print::{say, tell};
 use reader::gather::{end_of, put_nodes, put_values};
 use reader::head::{Head, NODES};
+use replay_io::read_full;
 use std::env::{Env, FillError};
 use std::io::{Cursor, Read, Write};
 use std::rt::Files;
@@ -167,21 +166,6 @@ fn ended(
     }
 }
 
-// How many bytes were read, until the buffer is full or the input ends.
-fn read_full(input: &mut impl Read, buf: &mut [u8]) -> io::Result<usize>
-    ensures { IfOk result (λ n. n ≤ length buf.new) }
-{
-    let mut done = 0;
-    while done < buf.len() {
-        let n = input.read(&mut buf[done..])?;
-        if n == 0 {
-            break;
-        }
-        done += n;
-    }
-    Ok(done)
-}
-
 fn read_text(
     rt: &impl Print,
     err: &impl Print,
@@ -293,7 +277,7 @@ fn say_totals(rt: &impl Print, t: Totals) -> io::Result<()> {
     tell(
         rt,
         b"total: % with a value, % refused, % stopped by a fault, % unreadable\n",
-        four(t.values, t.refused, t.faults, t.unreadable),
+        &[t.values, t.refused, t.faults, t.unreadable],
     )
 }
 

@@ -5,9 +5,9 @@ use crate::why::say_where;
 use compile::buffers::Compiled;
 use faults::Fault;
 use machine::run::Ran;
-use print::{none, one, say, say_value, tell, tell_line, three, two};
+use print::{say, say_value, tell};
 use reader::gather::put_spans;
-use reader::head::{Head, NODES, base_of, locals_of};
+use reader::head::{Head, NODES, Said, base_of, budget_of, locals_of, params_of};
 use std::io;
 use value::Value;
 use value::pairs::{Pairs, PairsMut};
@@ -27,8 +27,8 @@ const WORDS: usize = 4 * NODES;
 
 const SLOTS: usize = NODES;
 
-fn dest_of(d: u64) -> Option<u64> {
-    d.checked_sub(1)
+fn dest_of(d: Option<Said>) -> Option<u64> {
+    d.map(|said| said.number)
 }
 
 // What a fault means.
@@ -70,7 +70,7 @@ fn say_meaning(rt: &impl Print, f: Fault) -> io::Result<()> {
 }
 
 fn say_refused(rt: &impl Print, f: Fault) -> io::Result<()> {
-    tell(rt, b"refused with %", one(u64::from(f.number())))?;
+    tell(rt, b"refused with %", &[u64::from(f.number())])?;
     say_meaning(rt, f)
 }
 
@@ -78,18 +78,18 @@ fn say_layout(rt: &impl Print, h: Head) -> io::Result<()> {
     tell(
         rt,
         b"nodes %, parameters %, locals %",
-        three(h.nodes as u64, h.params, locals_of(h)),
+        &[h.nodes as u64, params_of(h), locals_of(h)],
     )?;
-    if h.dest == 0 {
-        return say(rt, b", no destination\n");
+    match h.dest {
+        Some(d) => tell(rt, b", destination r%\n", &[d.number]),
+        None => say(rt, b", no destination\n"),
     }
-    tell(rt, b", destination r%\n", one(h.dest - 1))
 }
 
 // Each pair, after its number: a register that is given a value, or a constant.
 fn list_pairs(rt: &impl Print, before: &[u8], pairs: Pairs<'_>) -> io::Result<()> {
     for (i, (kind, payload)) in pairs.kinds.iter().zip(pairs.payloads).enumerate() {
-        tell(rt, before, one(i as u64))?;
+        tell(rt, before, &[i as u64])?;
         say_value(rt, *kind, *payload)?;
         say(rt, b"\n")?;
     }
@@ -112,7 +112,7 @@ fn list(
     tell(
         rt,
         b"result in r%, frame of %\n",
-        two(register as u64, frame as u64),
+        &[register as u64, frame as u64],
     )
 }
 
@@ -125,7 +125,7 @@ fn say_tree(rt: &impl Print, a: Result<Value, Fault>) -> io::Result<bool> {
             Ok(true)
         }
         Err(f) => {
-            tell(rt, b"fault %", one(u64::from(f.number())))?;
+            tell(rt, b"fault %", &[u64::from(f.number())])?;
             say_meaning(rt, f)?;
             Ok(false)
         }
@@ -149,17 +149,15 @@ fn say_evaluated(
     say(rt, b"tree:  ")?;
     say_tree(
         rt,
-        eval::evaluate(nodes, h.params, locals_of(h), values.kinds, values.payloads),
+        eval::evaluate(nodes, params_of(h), locals_of(h), values.kinds, values.payloads),
     )
 }
 
 fn say_steps(rt: &impl Print, n: u64) -> io::Result<()> {
-    tell_line(
-        rt,
-        b" after % steps\n after % step",
-        if n == 1 { 1 } else { 0 },
-        one(n),
-    )
+    if n == 1 {
+        return say(rt, b" after 1 step");
+    }
+    tell(rt, b" after % steps", &[n])
 }
 
 // The value of a register.
@@ -167,7 +165,7 @@ fn say_register(rt: &impl Print, registers: Pairs<'_>, register: usize) -> io::R
     if let Some((kind, payload)) = registers.get(register) {
         say_value(rt, kind, payload)?;
     }
-    tell(rt, b" in r%", one(register as u64))
+    tell(rt, b" in r%", &[register as u64])
 }
 
 // Whether the words end with a value.
@@ -176,7 +174,7 @@ fn say_run(rt: &impl Print, r: Ran, registers: Pairs<'_>, register: usize) -> io
         tell(
             rt,
             b"fault % at word %",
-            two(u64::from(f.number()), r.position as u64),
+            &[u64::from(f.number()), r.position as u64],
         )?;
         say_steps(rt, r.steps)?;
         say_meaning(rt, f)?;
@@ -219,7 +217,7 @@ fn is_ready(rt: &impl Print, h: Head) -> io::Result<bool> {
     tell(
         rt,
         b"not run: % of % registers have a value\n",
-        two(h.values as u64, base_of(h)),
+        &[h.values as u64, base_of(h)],
     )?;
     Ok(false)
 }
@@ -245,7 +243,7 @@ fn answers(
     list(rt, words, slots, made.register, made.frame)?;
     let tree = say_evaluated(rt, nodes, registers.shared(), h)?;
     if is_ready(rt, h)? {
-        let ran = run(rt, words, slots, registers, made, h.budget)?;
+        let ran = run(rt, words, slots, registers, made, budget_of(h))?;
         return Ok(joint(tree, ran));
     }
     Ok(Outcome::Fault)
@@ -289,7 +287,7 @@ fn compile(
     let mut slot_payloads = [0u64; SLOTS];
     let c = compile::compile(
         nodes,
-        h.params,
+        params_of(h),
         locals_of(h),
         dest_of(h.dest),
         &mut code,
@@ -307,7 +305,7 @@ fn compile(
 fn check(s: &[u8], nodes: &mut [u64], h: Head) -> Result<(), Fault> {
     table::complete::complete(nodes);
     put_spans(s, nodes);
-    let checked = table::check::check(nodes, h.params, locals_of(h), dest_of(h.dest));
+    let checked = table::check::check(nodes, params_of(h), locals_of(h), dest_of(h.dest));
     if checked.is_err() {
         table::complete::complete(nodes);
     }

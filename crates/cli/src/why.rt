@@ -2,40 +2,36 @@
 ghost use Rattle.std.specs.Prelude.{◌≤◌, length};
 
 use crate::trouble::say_at;
-use print::{Numbers, four, none, one, say, tell, tell_line, two};
+use print::{say, tell};
 use reader::head::{Head, base_of};
 use reader::read;
-use reader::why::{DEEP, FINITE, GIVEN, KIND, PAYLOAD, Seen, Spot, first_at_fault, look, why};
+use reader::why::{Reason, Seen, Spot, first_at_fault, look, why};
 use std::io;
 use text::scan::find;
 
-// The numbers that the text of a fault has.
-fn numbers(w: u64, s: Seen, base: u64) -> Numbers {
-    match w {
-        KIND => one(s.kind),
-        PAYLOAD => two(s.kind, s.payload),
-        GIVEN => four(s.first_given, s.depth_given, s.first, s.depth),
-        DEEP => one(s.depth),
-        FINITE => none(),
-        _ => two(s.payload, base),
-    }
-}
-
 fn say_seen(rt: &impl Print, s: Seen, base: u64) -> io::Result<()> {
-    let w = why(s, base);
-    tell_line(
-        rt,
-        b"nothing is at fault there\n\
-          no kind has the number %\n\
-          a node of kind % has no payload, but here it is %\n\
-          a child is missing: too few nodes stand before it\n\
-          first % and depth % are given, but should be % and %\n\
-          its depth is %\n\
-          register % is not below the base, %\n\
-          a Float that is not finite",
-        w,
-        numbers(w, s, base),
-    )?;
+    match why(s, base) {
+        None => say(rt, b"nothing is at fault there")?,
+        Some(Reason::Kind) => tell(rt, b"no kind has the number %", &[s.kind])?,
+        Some(Reason::Payload) => tell(
+            rt,
+            b"a node of kind % has no payload, but here it is %",
+            &[s.kind, s.payload],
+        )?,
+        Some(Reason::Child) => say(rt, b"a child is missing: too few nodes stand before it")?,
+        Some(Reason::Given(first, depth)) => tell(
+            rt,
+            b"first % and depth % are given, but should be % and %",
+            &[first, depth, s.first, s.depth],
+        )?,
+        Some(Reason::Deep) => tell(rt, b"its depth is %", &[s.depth])?,
+        Some(Reason::Register) => tell(
+            rt,
+            b"register % is not below the base, %",
+            &[s.payload, base],
+        )?,
+        Some(Reason::Finite) => say(rt, b"a Float that is not finite")?,
+    }
     say(rt, b"\n")
 }
 
@@ -54,7 +50,7 @@ fn say_spot(
     let from = t.at;
     let e = find(s, from, b'\n');
     say_at(rt, name, t.line)?;
-    tell(rt, b"node %: ", one(t.node as u64))?;
+    tell(rt, b"node %: ", &[t.node as u64])?;
     say_seen(rt, look(nodes, t.node, read(&s[from..e])), base)
 }
 
@@ -69,22 +65,23 @@ pub fn say_where(
 ) -> io::Result<()> {
     let base = base_of(h);
     say(rt, b"  ")?;
-    if base < h.dest {
-        say_at(rt, name, h.dest_line)?;
+    if let Some(dest) = h.dest
+        && base <= dest.number
+    {
+        say_at(rt, name, dest.line)?;
         return tell(
             rt,
             b"destination r% is not below the base, %\n",
-            two(h.dest - 1, base),
+            &[dest.number, base],
         );
     }
-    let t = first_at_fault(nodes, s, line, base);
-    if t.node < nodes.len() / 4 {
+    if let Some(t) = first_at_fault(nodes, s, line, base) {
         return say_spot(rt, name, nodes, s, t, base);
     }
     say_at(rt, name, h.node_line)?;
     tell(
         rt,
         b"the last node does not take in all nodes before it\n",
-        none(),
+        &[],
     )
 }

@@ -68,12 +68,6 @@ module _ (dst : Option ℕ) (room : ℕ) (s : State) where
   general-is o a b e = rw e
 
 module _ (room : ℕ) (s : State) where
-  pub test-is : (t : Tree) (sense : Bool) {u : Tree} {how : How} → one t (How.Bool sense) ≡ one u how → one_b how (gen u).value room s ≡ one_b (How.Bool sense) (gen t).value room s
-  test-is t sense {u} {how} e =
-      let p : u ≡ t = cc in
-      let q : how ≡ How.Bool sense = cc in
-      rw (p, q)
-
   one-is : {t u : Tree} {h how : How} → one t h ≡ one u how → one_b how (gen u).value room s ≡ one_b h (gen t).value room s
   one-is {t} {u} {h} {how} e =
       let p : u ≡ t = cc in

@@ -22,12 +22,10 @@ use Rattle.fold.specs.declared.Tail.{Tail}
 use Rattle.fold.specs.declared.How.{How}
 use Rattle.emit.specs.State.{Res, State, dest_d}
 use Rattle.fold.specs.Fold.{Picked, one, two}
-use Rattle.emit.specs.Read.{bufs, Fit, Says, Steps, LeafReady}
-use Rattle.emit.specs.Lists.{Lists}
+use Rattle.emit.specs.Read.{bufs, Says, Steps, LeafReady}
 use Rattle.fold.specs.Nodes.{Operand, Operator, Tested, TestIs, op_fold, pick_of, is_comparison, is_junction}
 use Rattle.codegen.specs.Rules.{Ready}
 use Rattle.emit.proofs.Laws.{kept}
-use Rattle.codegen.proofs.Parts.{kept-jumps}
 
 -- ---- the measure
 
@@ -192,18 +190,6 @@ module _ {ws c k p : List ℕ} {i : ℕ} {st : St} (ready : Ready ws (bufs c k p
   pub ready-dest : {x : Result (ℕ × St) Fault} {d : ℕ} {s : St} (dst : Option ℕ) → ((c : List ℕ) → Steps c c st x (dest_d dst)) → x ≡ Ok (d, s) → Ready ws (bufs c k p) i s
   ready-dest dst h e = record { base = ready.base; node = ready.node; low = ready.low; fit = kept e (h c k p ready.fit) }
 
-  pub ready-jumps : {c' k' p' js : List ℕ} {x : Result (ℕ × St) Fault} {n : ℕ} {s : St} {m : Res (List ℕ × State)} → x ≡ Ok (n, s) → Lists (bufs c' k' p') js x m → Ready ws (bufs c' k' p') i s
-  ready-jumps e h = record { base = ready.base; node = ready.node; low = ready.low; fit = kept-jumps e h }
-
-  pub ready-tested : {j : ℕ} → Tested ws i j → Ready ws (bufs c k p) j st
-  ready-tested =
-      ⊎_elim
-      (λ of. record { base = ready.base; node = (of ready.base ready.node).node; low = ready.low; fit = ready.fit })
-      (λ own. subst (λ (n : ℕ). Ready ws (bufs c k p) n st) (sym own.0) ready)
-
-  pub fit_of : Fit (bufs c k p) st
-  fit_of = ready.fit
-
   -- an operator that takes in nothing has two operands
   pub over-unary : 5 < kind_at ws i → op_fold (tree ws i) ≡ None → 7 < kind_at ws i
   unfolding op_fold
@@ -256,18 +242,6 @@ module _ {k v : ℕ} (is : k ≡ v) where
 
   pub under : {m : ℕ} → k ≤ m → v ≤ m
   under h = omega arith
-
-  pub is-kind : {m : ℕ} → k ≡ m → v ≡ m
-  is-kind e = sym is ∙ e
-
-  pub is-not : {m : ℕ} → (k ≡ m → ⊥) → v ≡ m → ⊥
-  is-not f e = f (is ∙ e)
-
-  pub same-eqb : (m : ℕ) → eqb k m ≡ eqb v m
-  same-eqb m = ap (λ (q : ℕ). eqb q m) is
-
-  pub junction-found : {b w : Bool} → b ≡ is_junction k → b ≡ w → is_junction v ≡ w
-  junction-found e h = ap is_junction (sym is) ∙ sym e ∙ h
 
 -- what a test takes in, as the code found it
 module _ (ws : List ℕ) (i : ℕ) (p : Picked Tree) {r : Option (ℕ × How)} where

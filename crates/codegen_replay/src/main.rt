@@ -1,8 +1,8 @@
 // Compiles node tables into lent buffers, and writes what compiling answers and leaves; tools/oracle/README.md has the layout.
 #![tactic(auto)]
 
-use faults::Fault;
 use compile::buffers::Compiled;
+use faults::Fault;
 use replay_io::within;
 use std::io;
 use std::io::{Read, Write};
@@ -20,7 +20,13 @@ fn dest_of(d: u64) -> Option<u64> {
 
 fn write_answer<W: Write>(output: &mut W, answer: Result<Compiled, Fault>) -> io::Result<()> {
     let words = match answer {
-        Ok(c) => [0, c.words as u64, c.slots as u64, c.register as u64, c.frame as u64],
+        Ok(c) => [
+            0,
+            c.words as u64,
+            c.slots as u64,
+            c.register as u64,
+            c.frame as u64,
+        ],
         Err(fault) => [fault.number() as u64, 0, 0, 0, 0],
     };
     replay_io::write_words(output, &words)

@@ -1,11 +1,10 @@
 -- What the proofs of `generate`, `compile` and `compile_with` cite: what a checked table gives, from the root's answer.
 use Rattle.std.specs.Prelude.{Option, Some, None, Result, Ok, Err}
 use Rattle.faults.specs.declared.Fault.{Fault}
-use mathlib.Core.Path.{◌≡◌, refl, sym, ap, subst, ◌∙◌}
+use mathlib.Core.Path.{◌≡◌, sym, ap, subst, ◌∙◌}
 use mathlib.Core.List.{List}
-use Prim.Native.Nat.{ℕ, zero, suc, ◌+◌, ◌*◌, ◌-◌, ◌<◌, ◌≤◌}
+use Prim.Native.Nat.{ℕ, ◌+◌, ◌*◌, ◌-◌, ◌<◌, ◌≤◌}
 use native.Mathlib.Omega.{arith}
-use lib.ListN.{length, replicate}
 use Rattle.faults.specs.Limits.{max_nodes, max_registers}
 use Rattle.table.specs.Table.{node_count, temp_base_of, check_of}
 use Rattle.table.specs.Tree.{Tree, tree, size}
@@ -15,9 +14,9 @@ use Rattle.emit.specs.declared.state.St.{St}
 use Rattle.emit.specs.State.{Res, done, fail, State}
 use Rattle.emit.specs.Read.{Bufs, st_of, read, Says}
 use Rattle.codegen.specs.Gen.{gen}
-use Rattle.compile.specs.Compile.{start, dst_of, root_d, generated, accepted, compile_of}
+use Rattle.compile.specs.Compile.{start, dst_of, root_d, generated, compile_of}
 use Rattle.compile.specs.Buffers.{Compiles}
-use Rattle.compile.specs.Parts.{Root, IsRegister, zeroed}
+use Rattle.compile.specs.Parts.{Root, IsRegister}
 use Rattle.codegen.proofs.Room.{same-room, into-same}
 
 -- ---- a checked table
@@ -85,6 +84,10 @@ module _ (ws : List ℕ) (params locals : ℕ) (dest : Option ℕ) (cap slot_cap
       Compiles q (generated (tree ws (node_count ws - 1)) dest (params + locals) max_nodes cap slot_cap) c k p lc lk lp
   enough-places places h few m = compiles-by (enough ws params locals dest places cap slot_cap h few) m
 
+  pub places-for-all : (places : ℕ) → check_of ws params locals dest ≡ Ok tt → max_nodes ≤ 2 * places → Compiles q (generated (tree ws (node_count ws - 1)) dest (params + locals) places cap slot_cap) c k p lc lk lp →
+      Compiles q (generated (tree ws (node_count ws - 1)) dest (params + locals) max_nodes cap slot_cap) c k p lc lk lp
+  places-for-all places h all = let a = few-enough ws params locals dest h in enough-places places h (omega arith)
+
 -- `listed`: the list grows at each call, and the one that is taken is for at least as many nodes as there are
 pub longer : {t most : ℕ} → 32768 - most ≡ t → 0 < most → most ≤ 4096 → 32768 - 8 * most < t
 longer e h k = omega arith
@@ -103,5 +106,3 @@ module _ (ws : List ℕ) (params locals : ℕ) (dest : Option ℕ) (room cap slo
       Compiles q (compile_of ws params locals dest room cap slot_cap) c k p lc lk lp
   unfolding compile_of
   out-passed e h = rw (← e) h
-
-

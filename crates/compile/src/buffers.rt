@@ -5,8 +5,8 @@ ghost use Rattle.emit.specs.State.{done, fail};
 ghost use Rattle.emit.specs.Read.{bufs, st_of, Fit};
 ghost use Rattle.compile.specs.Buffers.{Compiles};
 
-use faults::Fault;
 use emit::state::St;
+use faults::Fault;
 
 // What compiling made: how many words and constants, the register that holds the value, and the frame's size.
 #[derive(Clone, Copy)]
@@ -42,7 +42,12 @@ pub(crate) fn finish(
 }
 
 // A refusal: its fault, and all lent output zero. Public for entries that refuse before they compile.
-pub fn refuse(f: Fault, code: &mut [u64], kinds: &mut [u8], payloads: &mut [u64]) -> Result<Compiled, Fault>
+pub fn refuse(
+    f: Fault,
+    code: &mut [u64],
+    kinds: &mut [u8],
+    payloads: &mut [u64],
+) -> Result<Compiled, Fault>
     ensures { Compiles result (fail f) code.new kinds.new payloads.new
         (length code.old) (length kinds.old) (length payloads.old) }
 {

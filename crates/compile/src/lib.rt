@@ -14,10 +14,10 @@ ghost use Rattle.compile.specs.Buffers.{Compiles};
 ghost use Rattle.compile.specs.Compile.{dst_of, root_d, start, generated, compile_of};
 ghost use Rattle.compile.specs.Parts.{Root, IsRegister, Leaves};
 
-use faults::Fault;
 use crate::buffers::{Compiled, finish, refuse};
 use codegen::rules::{gen_code_inner, gen_into};
 use emit::state::St;
+use faults::Fault;
 
 // The destination as the rules take it.
 fn dst_of(dest: Option<u64>) -> Option<u16>

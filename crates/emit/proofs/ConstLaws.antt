@@ -1,5 +1,5 @@
 -- What the constant slots have to show: when two constants are one, the search for a slot, and a slot that is taken.
-use Rattle.std.specs.Prelude.{Option, None, Result, Err}
+use Rattle.std.specs.Prelude.{Option, Some, None, Result, Err}
 use Rattle.faults.specs.declared.Fault.{Fault}
 use Rattle.insns.specs.declared.Insn.{Insn}
 use mathlib.Core.Path.{◌≡◌, refl, sym, ap, subst, ◌∙◌}
@@ -8,6 +8,7 @@ use mathlib.Core.List.{List, [], ◌∷◌, ◌++◌, map, map-append}
 use mathlib.Core.Logic.{⊎_elim}
 use Prim.Native.Nat.{ℕ, zero, suc, ◌+◌, ◌≤◌, ◌<◌, ◌^◌, min}
 use native.Mathlib.Numerals.{add-one}
+use native.Mathlib.Decide.{dec_lt}
 use native.Mathlib.Omega.{arith}
 use lib.Dec.{ltb, eqb}
 use lib.IntN.{ℤ, pos, negsuc}
@@ -16,7 +17,7 @@ use lib.Seq.{length-take-le, take_all, take-suc-set, drop-cons, get_or-take}
 use mir.Syntax.{w64}
 use mir.Val.{to_z}
 use mir.ValLaws.{of_z-to_z}
-use borrow.Author.Tests.{lt-ltb, le-ltb, eq-eqb, eqb-true}
+use borrow.Author.Tests.{lt-ltb, le-ltb, eq-eqb, eqb-true, ltb-true}
 use Rattle.faults.specs.Numbers.{no_slot, no_fit}
 use Rattle.int64.proofs.sign.Laws.{never}
 use Rattle.value.specs.Value.{Datum, nil, bool, int, float, kind_of, payload_of, of_pair, datums}
@@ -28,7 +29,7 @@ use Rattle.insns.specs.Insns.{made_of}
 use Rattle.emit.specs.declared.state.St.{St}
 use Rattle.emit.specs.State.{same_int, alike, seek, slot_d, store_d, emit_d}
 use Rattle.emit.specs.Steps.{const_to}
-use Rattle.emit.specs.Read.{bufs, st_of, held_in, Held, const_of, Literal, Fit, Says, Steps}
+use Rattle.emit.specs.Read.{bufs, st_of, held_in, Held, const_of, found, Pair, Literal, Fit, Says, Steps}
 
 -- ---- two constants that are one
 
@@ -73,7 +74,7 @@ module _ {k p : ℕ} (l : Literal k p) where
 
 -- a slot that is what its constant is written as holds a literal exactly where the bits are the same
 module _ {a p k q : ℕ} (kind : kind_of (const_of a p) ≡ a) (payload : payload_of (const_of a p) ≡ p) (l : Literal k q) where
-  bits-same : (eqb a k && eqb p q) ≡ alike (const_of a p) (const_of k q)
+  pub bits-same : (eqb a k && eqb p q) ≡ alike (const_of a p) (const_of k q)
   bits-same = by (alike (const_of a p) (const_of k q)) refl
     where
       apart : (x y : Bool) → eqb a k ≡ x → eqb p q ≡ y → alike (const_of a p) (const_of k q) ≡ false → (x && y) ≡ false
@@ -148,48 +149,67 @@ unfolding seek
 from_end v ds i h = rw (drop_of_length-le ds h) (omega arith)
 
 -- what is left finds what the whole finds
-pub record Seeking (ks ps : List ℕ) (n kind payload i : ℕ) : Type 0 where
+pub record Seeking (ks ps : List ℕ) (n : ℕ) (v : Datum) (i : ℕ) : Type 0 where
   pub held : Held ks ps n
-  pub literal : Literal kind payload
   pub low : i ≤ n
-  pub same : from (const_of kind payload) (held_in ks ps n) i ≡ seek (const_of kind payload) (held_in ks ps n)
+  pub same : from v (held_in ks ps n) i ≡ seek v (held_in ks ps n)
 
-pub seek-start : {ks ps : List ℕ} {n kind payload : ℕ} → Held ks ps n → Literal kind payload → Seeking ks ps n kind payload 0
-seek-start h l = record { held = h; literal = l; low = omega arith; same = omega arith }
+pub seek-start : {ks ps : List ℕ} {n : ℕ} {v : Datum} → Held ks ps n → Seeking ks ps n v 0
+seek-start h = record { held = h; low = omega arith; same = omega arith }
 
-module _ {ks ps : List ℕ} {n kind payload i : ℕ} (s : Seeking ks ps n kind payload i) where
+module _ {ks ps : List ℕ} {n : ℕ} {v : Datum} {i : ℕ} (s : Seeking ks ps n v i) where
   pub seek-kinds : i < n → i < length ks
   seek-kinds h = let a = s.held.in_kinds in omega arith
 
   pub seek-payloads : i < n → i < length ps
   seek-payloads h = let a = s.held.in_payloads in omega arith
 
-  module _ {b : Bool} (h : i < n) (e : b ≡ (eqb (get_or ks i 0) kind && eqb (get_or ps i 0) payload)) where
-    next : cond b i (from (const_of kind payload) (held_in ks ps n) (i + 1)) ≡ seek (const_of kind payload) (held_in ks ps n)
+  pub seek-pair : i < n → Pair (get_or ks i 0) (get_or ps i 0)
+  seek-pair h = record { as_kind = slot-kind s.held h; as_payload = slot-payload s.held h }
+
+  module _ {b : Bool} (h : i < n) (e : b ≡ alike (const_of (get_or ks i 0) (get_or ps i 0)) v) where
+    next : cond b i (from v (held_in ks ps n) (i + 1)) ≡ seek v (held_in ks ps n)
     next =
         let d = slots-are s.held in
-        let z : b ≡ alike (get_or (held_in ks ps n) i nil) (const_of kind payload) =
-        e ∙ bits-same (slot-kind s.held h) (slot-payload s.held h) s.literal ∙ ap (λ (x : Datum). alike x (const_of kind payload)) (sym (slot_at s.held h)) in
-        ap (λ (x : Bool). cond x i (from (const_of kind payload) (held_in ks ps n) (i + 1))) z
-        ∙ sym (from_next (const_of kind payload) (held_in ks ps n) i (omega arith))
+        ap (λ (x : Bool). cond x i (from v (held_in ks ps n) (i + 1))) (e ∙ ap (λ (x : Datum). alike x v) (sym (slot_at s.held h)))
+        ∙ sym (from_next v (held_in ks ps n) i (omega arith))
         ∙ s.same
 
-    pub seek_hit : b ≡ true → i ≡ seek (const_of kind payload) (held_in ks ps n)
-    seek_hit y = sym (ap (λ (x : Bool). cond x i (from (const_of kind payload) (held_in ks ps n) (i + 1))) y) ∙ next
+    pub seek_hit : b ≡ true → Some i ≡ found (seek v (held_in ks ps n)) n
+    seek_hit y =
+        let q : i ≡ seek v (held_in ks ps n) = sym (ap (λ (x : Bool). cond x i (from v (held_in ks ps n) (i + 1))) y) ∙ next in
+        rw (← q, lt-ltb i n h)
 
-    pub seek-miss : b ≡ false → Seeking ks ps n kind payload (i + 1)
+    pub seek-miss : b ≡ false → Seeking ks ps n v (i + 1)
     seek-miss y =
         record {
           held = s.held;
-          literal = s.literal;
           low = omega arith;
-          same = sym (ap (λ (x : Bool). cond x i (from (const_of kind payload) (held_in ks ps n) (i + 1))) y) ∙ next;
+          same = sym (ap (λ (x : Bool). cond x i (from v (held_in ks ps n) (i + 1))) y) ∙ next;
         }
 
-  pub seek-done : n ≤ i → i ≡ seek (const_of kind payload) (held_in ks ps n)
-  seek-done h = let d = slots-are s.held in sym (from_end (const_of kind payload) (held_in ks ps n) i (omega arith)) ∙ s.same
+  pub seek-done : n ≤ i → None ≡ found (seek v (held_in ks ps n)) n
+  seek-done h =
+      let d = slots-are s.held in
+      let q : i ≡ seek v (held_in ks ps n) = sym (from_end v (held_in ks ps n) i (omega arith)) ∙ s.same in
+      rw (← q, le-ltb i n h)
 
-pub ruleset seeks = (seek-start, seek-kinds, seek-payloads, seek_hit, seek-miss, seek-done)
+pub ruleset seeks = (seek-start, seek-kinds, seek-payloads, seek-pair, seek_hit, seek-miss, seek-done)
+
+-- what was found is a place
+found-some : {s n k : ℕ} {r : Option ℕ} → r ≡ found s n → r ≡ Some k → (k ≡ s) × (k < n)
+found-some {s} {n} {k} e h = go' (ltb s n) refl (sym e ∙ h)
+  where
+    go' : (b : Bool) → ltb s n ≡ b → cond b (Some s) None ≡ Some k → (k ≡ s) × (k < n)
+    go' true l q = let z : s ≡ k = cc in let m : s < n = ltb-true s n l in (sym z, omega arith)
+    go' false l q = absurd (let z : ◌≡◌ {A = ℕ} 0 1 = cc in omega arith)
+
+found-none : {s n : ℕ} {r : Option ℕ} → r ≡ found s n → r ≡ None → n ≤ s
+found-none {s} {n} e h =
+    elim (dec_lt s n) [
+      | no g ↦ omega arith
+      | yes g ↦ (let q : Some s ≡ None = rw (lt-ltb s n g) at (sym e ∙ h) in absurd (let z : ◌≡◌ {A = ℕ} 0 1 = cc in omega arith))
+    ]
 
 -- ---- slots of zeros: they are what Nil is written as
 
@@ -255,44 +275,47 @@ slot-far c d k st h ks ps fit = let m : made_of (Op.Slot Slot.LoadConst d k) ≡
 abbrev taken : St → St
 taken st = record { count = st.count; slots = st.slots + 1; next = st.next; frame = st.frame }
 
-module _ {c ks ps : List ℕ} {st : St} (fit : Fit (bufs c ks ps) st) {k p : ℕ} (l : Literal k p) (d : ℕ) {at : ℕ} (is_at : at ≡ seek (const_of k p) (held_in ks ps st.slots)) where
+module _ {c ks ps : List ℕ} {st : St} (fit : Fit (bufs c ks ps) st) (v : Datum) (d : ℕ) {at : Option ℕ} (is_at : at ≡ found (seek v (held_in ks ps st.slots)) st.slots) where
   -- a slot holds it
-  pub const-shared : {c' : List ℕ} {r : Result (ℕ × St) Fault} → at < st.slots → Steps c c' st r (emit_d (Op.Slot Slot.LoadConst d at) d) →
-      Says (bufs c' ks ps) r (const_to (const_of k p) (d, st_of (bufs c ks ps) st))
+  pub const-shared : {k : ℕ} {c' : List ℕ} {r : Result (ℕ × St) Fault} → at ≡ Some k → Steps c c' st r (emit_d (Op.Slot Slot.LoadConst d k) d) →
+      Says (bufs c' ks ps) r (const_to v (d, st_of (bufs c ks ps) st))
   unfolding const_to slot_d
   const-shared h s =
       let q = s ks ps fit in
       let n = slots-are fit.consts in
-      let i : seek (const_of k p) (held_in ks ps st.slots) < length (held_in ks ps st.slots) = omega arith in
-      record { is = q.is ∙ rw (lt-ltb _ _ i, ← is_at); fit = q.fit }
+      let f = found-some is_at h in
+      let i : seek v (held_in ks ps st.slots) < length (held_in ks ps st.slots) = omega arith in
+      record { is = q.is ∙ rw (lt-ltb _ _ i, ← f.0); fit = q.fit }
 
-  module _ (new : st.slots ≤ at) where
-    none : ltb (seek (const_of k p) (held_in ks ps st.slots)) (length (held_in ks ps st.slots)) ≡ false
+  module _ (new : at ≡ None) where
+    none : ltb (seek v (held_in ks ps st.slots)) (length (held_in ks ps st.slots)) ≡ false
     none =
         let n = slots-are fit.consts in
-        let i : length (held_in ks ps st.slots) ≤ seek (const_of k p) (held_in ks ps st.slots) = omega arith in
+        let f = found-none is_at new in
+        let i : length (held_in ks ps st.slots) ≤ seek v (held_in ks ps st.slots) = omega arith in
         le-ltb _ _ i
 
-    full : min (length ks) (length ps) ≤ st.slots → Says (bufs c ks ps) (Err no_slot) (const_to (const_of k p) (d, st_of (bufs c ks ps) st))
+    full : min (length ks) (length ps) ≤ st.slots → Says (bufs c ks ps) (Err no_slot) (const_to v (d, st_of (bufs c ks ps) st))
     unfolding const_to slot_d
     full h = record { is = rw (none, slots-are fit.consts, le-ltb st.slots (min (length ks) (length ps)) h); fit = tt }
 
-    pub const-full-kinds : length ks ≤ st.slots → Says (bufs c ks ps) (Err no_slot) (const_to (const_of k p) (d, st_of (bufs c ks ps) st))
+    pub const-full-kinds : length ks ≤ st.slots → Says (bufs c ks ps) (Err no_slot) (const_to v (d, st_of (bufs c ks ps) st))
     const-full-kinds h = full (omega arith)
 
-    pub const-full-payloads : length ps ≤ st.slots → Says (bufs c ks ps) (Err no_slot) (const_to (const_of k p) (d, st_of (bufs c ks ps) st))
+    pub const-full-payloads : length ps ≤ st.slots → Says (bufs c ks ps) (Err no_slot) (const_to v (d, st_of (bufs c ks ps) st))
     const-full-payloads h = full (omega arith)
 
     -- a new slot
-    pub const-put : {c' : List ℕ} {r : Result (ℕ × St) Fault} → st.slots < length ks → st.slots < length ps → Steps c c' (taken st) r (emit_d (Op.Slot Slot.LoadConst d st.slots) d) →
-        Says (bufs c' (set ks st.slots k) (set ps st.slots p)) r (const_to (const_of k p) (d, st_of (bufs c ks ps) st))
+    pub const-put : {k p : ℕ} → Literal k p → const_of k p ≡ v → {c' : List ℕ} {r : Result (ℕ × St) Fault} → st.slots < length ks → st.slots < length ps →
+        Steps c c' (taken st) r (emit_d (Op.Slot Slot.LoadConst d st.slots) d) →
+        Says (bufs c' (set ks st.slots k) (set ps st.slots p)) r (const_to v (d, st_of (bufs c ks ps) st))
     unfolding const_to slot_d
-    const-put a b s =
+    const-put {k} {p} l e a b s =
         let q = s (set ks st.slots k) (set ps st.slots p) (record { words = fit.words; consts = held_after fit.consts l a b }) in
         let i : length (set ks st.slots k) ≡ length ks = length-set ks st.slots k in
         let j : length (set ps st.slots p) ≡ length ps = length-set ps st.slots p in
         record {
-          is = q.is ∙ rw (none, slots-are fit.consts, lt-ltb st.slots (min (length ks) (length ps)) (omega arith), held_more fit.consts l a b, i, j);
+          is = q.is ∙ rw (none, slots-are fit.consts, lt-ltb st.slots (min (length ks) (length ps)) (omega arith), held_more fit.consts l a b, i, j, ← e);
           fit = q.fit;
         }
 

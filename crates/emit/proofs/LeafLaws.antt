@@ -4,7 +4,6 @@ use Rattle.faults.specs.declared.Fault.{Fault}
 use mathlib.Core.Path.{◌≡◌, refl, sym, ap, subst, ◌∙◌}
 use mathlib.Core.Bool.{Bool, true, false}
 use mathlib.Core.List.{List, [], ◌∷◌}
-use mathlib.Core.Logic.{inl, inr}
 use Prim.Native.Nat.{ℕ, suc, ◌+◌, ◌*◌, ◌<◌}
 use native.Mathlib.Omega.{arith}
 use lib.IntN.{ℤ, pos, negsuc, ◌*ℤ◌}
@@ -23,7 +22,7 @@ use Rattle.emit.specs.declared.state.St.{St}
 use Rattle.emit.specs.State.{State, dest_d}
 use Rattle.fold.specs.Literal.{fits_imm40}
 use Rattle.emit.specs.Steps.{put_d, load_op, raw_nil, raw_true, raw_false, const_to, const_d, leaf_d}
-use Rattle.emit.specs.Read.{Bufs, bufs, const_of, st_of, Fit, Says, Steps, Literal, LeafReady}
+use Rattle.emit.specs.Read.{Bufs, bufs, const_of, st_of, Fit, Says, Steps, LeafReady}
 use Rattle.emit.proofs.Laws.{go, kept, says-by}
 use Rattle.fold.proofs.literal.Literals.{held}
 
@@ -36,15 +35,6 @@ module _ {c ks ps : List ℕ} {st : St} (fit : Fit (bufs c ks ps) st) (v : Datum
 
 pub fit-dest : {c ks ps : List ℕ} {st : St} → Fit (bufs c ks ps) st → (dst : Option ℕ) {x : Result (ℕ × St) Fault} → ((c : List ℕ) → Steps c c st x (dest_d dst)) → {d : ℕ} {s : St} → x ≡ Ok (d, s) → Fit (bufs c ks ps) s
 fit-dest {c} {ks} {ps} fit dst to e = kept e (to c ks ps fit)
-
-pub ruleset consts = (const-go)
-
--- an Int's pair, and a Float's
-pub literal-int : {p : ℕ} → FitsIn w64 p → Literal 2 p
-literal-int f = record { is = inl refl; word = f }
-
-pub literal-float : {p : ℕ} → FitsIn w64 p → Literal 3 p
-literal-float f = record { is = inr refl; word = f }
 
 -- ---- the leaf at a node
 
@@ -109,13 +99,14 @@ module _ {c ks ps : List ℕ} (dst : Option ℕ) {st : St} (fit : Fit (bufs c ks
         held (pos 4 *ℤ to_z w64 (of_z w64 z)) (four-fits z g w y).sfits ∙ ap (λ (x : ℤ). pos 4 *ℤ x) (held z g ∙ sym number) in
         leaf-by 3 h (rw (fits-is y) (says-by (ap (λ (x : ℤ). put_d (load_op (record { raw = x })) dst (st_of (bufs c ks ps) st)) q) (s ks ps fit)))
 
-    pub leaf-big : {b : Bufs} {r : Result (ℕ × St) Fault} → t ≡ false → Says b r (const_d (const_of 2 p) dst (st_of (bufs c ks ps) st)) → Says b r (leaf_d (leaf_at pay kind) dst (st_of (bufs c ks ps) st))
+    pub leaf-big : {b : Bufs} {r : Result (ℕ × St) Fault} {v : Datum} → t ≡ false → Says b r (const_d v dst (st_of (bufs c ks ps) st)) → v ≡ const_of 2 p → Says b r (leaf_d (leaf_at pay kind) dst (st_of (bufs c ks ps) st))
     unfolding leaf_d leaf_at of_pair
-    leaf-big y s = leaf-by 3 h (rw (fits-is y) (says-by (ap (λ (x : ℕ). const_d (Val.int (to_z w64 x)) dst (st_of (bufs c ks ps) st)) read_is) s))
+    leaf-big y s e =
+        leaf-by 3 h (rw (fits-is y) (says-by (ap (λ (x : Datum). const_d x dst (st_of (bufs c ks ps) st)) e ∙ ap (λ (x : ℕ). const_d (Val.int (to_z w64 x)) dst (st_of (bufs c ks ps) st)) read_is) s))
 
-  pub leaf-float : {p : ℕ} → p ≡ pay → {b : Bufs} {r : Result (ℕ × St) Fault} → k ≡ 4 → Says b r (const_d (const_of 3 p) dst (st_of (bufs c ks ps) st)) → Says b r (leaf_d (leaf_at pay kind) dst (st_of (bufs c ks ps) st))
+  pub leaf-float : {p : ℕ} → p ≡ pay → {b : Bufs} {r : Result (ℕ × St) Fault} {v : Datum} → k ≡ 4 → Says b r (const_d v dst (st_of (bufs c ks ps) st)) → v ≡ const_of 3 p → Says b r (leaf_d (leaf_at pay kind) dst (st_of (bufs c ks ps) st))
   unfolding leaf_d leaf_at of_pair
-  leaf-float read_is h s = leaf-by 4 h (says-by (ap (λ (x : ℕ). const_d (Val.float x) dst (st_of (bufs c ks ps) st)) read_is) s)
+  leaf-float read_is h s e = leaf-by 4 h (says-by (ap (λ (x : Datum). const_d x dst (st_of (bufs c ks ps) st)) e ∙ ap (λ (x : ℕ). const_d (Val.float x) dst (st_of (bufs c ks ps) st)) read_is) s)
 
 -- the last arm is a Ref's
 module _ {ws : List ℕ} {i : ℕ} (ready : LeafReady ws i) {k : ℕ} (e : k ≡ kind_at ws i) (n0 : k ≡ 0 → ⊥) (n1 : k ≡ 1 → ⊥) (n2 : k ≡ 2 → ⊥) (n3 : k ≡ 3 → ⊥) (n4 : k ≡ 4 → ⊥) where
@@ -129,4 +120,4 @@ module _ {ws : List ℕ} {i : ℕ} (ready : LeafReady ws i) {k : ℕ} (e : k ≡
   unfolding leaf_d leaf_at
   leaf-ref dst fit kind pay g q = leaf-by dst fit kind pay g 5 last-kind (record { is = rw q; fit = fit })
 
-pub ruleset leafs = (four-fits, leaf-nil, leaf-yes, leaf-no, leaf-int, leaf-big, leaf-float, leaf-ref, ref-fits, literal-int, literal-float)
+pub ruleset leafs = (four-fits, leaf-nil, leaf-yes, leaf-no, leaf-int, leaf-big, leaf-float, leaf-ref, ref-fits)

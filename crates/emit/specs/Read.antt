@@ -1,7 +1,7 @@
 -- Plumbing: how the contracts of the code speak of the definition. The code has counts (`St`) and lent buffers, the definition one state with lists
 -- (`State`). `st_of` reads that state off the buffers and `read` an answer; a contract says that what is read is what the definition gives (`Says`).
 use Rattle.faults.specs.declared.Fault.{Fault}
-use Rattle.std.specs.Prelude.{◌≡◌, ◌⊎◌, List, map, ℕ, ◌≤◌, ◌^◌, min, length, take, Result, Ok, Err}
+use Rattle.std.specs.Prelude.{◌≡◌, ◌⊎◌, List, map, ℕ, ◌≤◌, ◌^◌, min, length, take, Result, Ok, Err, cond, ltb, Option, Some, None}
 use Rattle.std.specs.Int.{w64}
 use Rattle.std.proofs.Common.{Fits}
 use Rattle.faults.specs.Limits.{max_registers}
@@ -87,6 +87,15 @@ After c c' x r f = (ks ps : List ℕ) → FitAns (bufs c ks ps) x → Says (bufs
 -- the constant of a kind and a payload
 abbrev pub const_of : (kind payload : ℕ) → Datum
 const_of kind payload = datum_of (of_pair kind payload)
+
+-- what a constant is written as
+pub record Pair (kind payload : ℕ) : Type 0 where
+  pub as_kind : kind_of (const_of kind payload) ≡ kind
+  pub as_payload : payload_of (const_of kind payload) ≡ payload
+
+-- the place k, if it is one of n
+abbrev pub found : (k n : ℕ) → Option ℕ
+found k n = cond (ltb k n) (Some k) None
 
 -- an Int or a Float, and a word
 pub record Literal (kind payload : ℕ) : Type 0 where

@@ -3,9 +3,9 @@ ghost use Rattle.std.specs.Prelude.{◌≡◌, ℕ};
 ghost use Rattle.table.specs.Table.{kind_at, payload_at};
 ghost use Rattle.table.specs.Tree.{Leaf, leaf_kind, kind_of};
 ghost use Rattle.emit.specs.Steps.{const_d, leaf_d};
-ghost use Rattle.emit.specs.Read.{bufs, st_of, const_of, Fit, Says, Literal, LeafReady};
+ghost use Rattle.emit.specs.Read.{bufs, st_of, Fit, Says, LeafReady};
 
-use crate::consts::{FLOAT_SLOT, INT_SLOT, push_const};
+use crate::consts::{Constant, push_const};
 use crate::state::{St, dest};
 use crate::word::{FALSE, NIL, TRUE, put_load};
 use faults::Fault;
@@ -17,17 +17,16 @@ fn gen_const(
     code: &mut [u64],
     kinds: &mut [u8],
     payloads: &mut [u64],
-    kind: u8,
-    payload: u64,
+    constant: Constant,
     dst: Option<u16>,
     st: St,
 ) -> Result<(u16, St), Fault>
-    requires { (Fit (bufs code.old kinds.old payloads.old) st) × (Literal kind payload) }
+    requires { Fit (bufs code.old kinds.old payloads.old) st }
     ensures { Says (bufs code.new kinds.new payloads.new) result
-        (const_d (const_of kind payload) dst (st_of (bufs code.old kinds.old payloads.old) st)) }
+        (const_d constant dst (st_of (bufs code.old kinds.old payloads.old) st)) }
 {
     let (d, s) = dest(dst, st)?;
-    push_const(code, kinds, payloads, kind, payload, d, s)
+    push_const(code, kinds, payloads, constant, d, s)
 }
 
 // The leaf at node i. Immediates that fit the instruction go inline, the rest through a constant slot. A variable's value sits in its own register, so
@@ -58,9 +57,9 @@ pub fn gen_value(
             if fits_imm40(z) {
                 return put_load(code, Imm40 { raw: 4 * z }, dst, st);
             }
-            gen_const(code, kinds, payloads, INT_SLOT, p, dst, st)
+            gen_const(code, kinds, payloads, Constant::int(p), dst, st)
         }
-        table::FLOAT => gen_const(code, kinds, payloads, FLOAT_SLOT, p, dst, st),
+        table::FLOAT => gen_const(code, kinds, payloads, Constant::float(p), dst, st),
         _ => Ok((p as u16, st)),
     }
 }

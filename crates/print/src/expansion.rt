@@ -1,7 +1,7 @@
 // A float as a decimal, never rounded. Where its digits are too many to be of use it stands as a whole number times a power of two.
 ghost use Rattle.std.specs.Prelude.{◌<◌, ◌≤◌};
 
-use crate::{none, say, say_number, tell_line, two};
+use crate::{say, say_number, tell_line};
 use std::io;
 
 // Twice p, while that is at most 2^60.
@@ -34,18 +34,10 @@ fn doubled(m: u64, k: u64) -> u64 {
     let mut n = m;
     for _ in 0..k {
         if n < 9223372036854775808 {
-            n = n * 2;
+            n *= 2;
         }
     }
     n
-}
-
-// What is left of n divided by p.
-fn left_over(n: u64, p: u64) -> u64
-    requires { 0 < p }
-    ensures { result < p }
-{
-    n % p
 }
 
 // The digits of rest / p after the point, at most k of them.
@@ -60,7 +52,7 @@ fn say_fraction(rt: &impl Print, rest: u64, p: u64, k: u64) -> io::Result<()>
             return Ok(());
         }
         say_number(rt, r * 10 / p % 10)?;
-        r = left_over(r * 10, p);
+        r = r * 10 % p;
     }
     Ok(())
 }
@@ -69,7 +61,7 @@ fn say_fraction(rt: &impl Print, rest: u64, p: u64, k: u64) -> io::Result<()>
 fn say_ratio(rt: &impl Print, m: u64, k: u64) -> io::Result<()> {
     let p = power(k);
     say_number(rt, m / p)?;
-    let rest = left_over(m, p);
+    let rest = m % p;
     if rest != 0 {
         say(rt, b".")?;
         say_fraction(rt, rest, p, k)?;
@@ -79,30 +71,17 @@ fn say_ratio(rt: &impl Print, m: u64, k: u64) -> io::Result<()> {
 
 // A number times a power of two, whose exponent is below 0 or not.
 fn say_product(rt: &impl Print, below: u64, m: u64, k: u64) -> io::Result<()> {
-    tell_line(rt, b"% * 2^%\n% * 2^-%", below, two(m, k))
-}
-
-fn least(a: u64, b: u64) -> u64
-    ensures { result ≤ b }
-{
-    if a < b {
-        return a;
-    }
-    b
-}
-
-fn wide(n: u32) -> u64 {
-    n as u64
+    tell_line(rt, b"% * 2^%\n% * 2^-%", below, &[m, k], 0)
 }
 
 // How many factors of two m has.
 fn twos(m: u64) -> u64 {
-    wide(m.trailing_zeros())
+    u64::from(m.trailing_zeros())
 }
 
 // m / 2^k, without the factors of two that both have. Past 60 digits after the point a decimal is of no use.
 fn say_small(rt: &impl Print, m: u64, k: u64) -> io::Result<()> {
-    let t = least(twos(m), k);
+    let t = twos(m).min(k);
     let n = m / power(t);
     if k - t <= 60 {
         return say_ratio(rt, n, k - t);
@@ -114,7 +93,7 @@ fn say_small(rt: &impl Print, m: u64, k: u64) -> io::Result<()> {
 fn say_large(rt: &impl Print, m: u64, k: u64) -> io::Result<()>
     requires { k ≤ 1024 }
 {
-    let t = least(twos(m), 60);
+    let t = twos(m).min(60);
     if k <= 11 {
         return say_number(rt, doubled(m, k));
     }
@@ -134,7 +113,7 @@ fn say_scaled(rt: &impl Print, m: u64, e: u64) -> io::Result<()>
 // An infinity or a NaN, by its fraction.
 fn say_special(rt: &impl Print, f: u64) -> io::Result<()> {
     let n = if f == 0 { 0 } else { 1 };
-    tell_line(rt, b"infinity\nNaN", n, none())
+    tell_line(rt, b"infinity\nNaN", n, &[], 0)
 }
 
 fn say_magnitude(rt: &impl Print, q: u64) -> io::Result<()> {

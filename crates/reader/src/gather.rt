@@ -3,7 +3,7 @@
 ghost use Rattle.std.specs.Prelude.{◌≡◌, ◌+◌, ◌<◌, ◌≤◌, min, length};
 
 use crate::head::NODES;
-use crate::{Line, read};
+use crate::{Line, Wrong, read};
 use text::scan::find;
 
 // The position after a line that ends at e.
@@ -35,10 +35,9 @@ fn put_kind(nodes: &mut [u64], n: usize, kind: u64, payload: u64) -> usize {
     n
 }
 
-fn put_node(nodes: &mut [u64], n: usize, l: Line) -> usize {
-    match l {
-        Line::Node(k, p) => put_kind(nodes, n, k, p),
-        Line::Given(k, p, _, _) => put_kind(nodes, n, k, p),
+fn put_node(nodes: &mut [u64], n: usize, r: Result<Line, Wrong>) -> usize {
+    match r {
+        Ok(Line::Node(k, p) | Line::Given(k, p, _, _)) => put_kind(nodes, n, k, p),
         _ => n,
     }
 }
@@ -46,11 +45,8 @@ fn put_node(nodes: &mut [u64], n: usize, l: Line) -> usize {
 // Kinds and payloads of all nodes.
 pub fn put_nodes(s: &[u8], nodes: &mut [u64]) {
     let mut n = 0;
-    let mut at = 0;
-    while at < s.len() {
-        let e = find(s, at, b'\n');
-        n = put_node(nodes, n, read(&s[at..e]));
-        at = past(s, e);
+    for l in s.split(|b| *b == b'\n') {
+        n = put_node(nodes, n, read(l));
     }
 }
 
@@ -64,33 +60,25 @@ fn put_span(nodes: &mut [u64], n: usize, first: u64, depth: u64) -> usize {
 }
 
 // The number of the next node, where a line has one.
-fn next_node(n: usize, l: Line) -> usize {
-    match l {
-        Line::Node(_, _) => {
-            if n < NODES {
-                return n + 1;
-            }
-            n
-        }
+fn next_node(n: usize, r: Result<Line, Wrong>) -> usize {
+    match r {
+        Ok(Line::Node(_, _)) if n < NODES => n + 1,
         _ => n,
     }
 }
 
-fn put_given(nodes: &mut [u64], n: usize, l: Line) -> usize {
-    match l {
-        Line::Given(_, _, f, d) => put_span(nodes, n, f, d),
-        _ => next_node(n, l),
+fn put_given(nodes: &mut [u64], n: usize, r: Result<Line, Wrong>) -> usize {
+    match r {
+        Ok(Line::Given(_, _, f, d)) => put_span(nodes, n, f, d),
+        _ => next_node(n, r),
     }
 }
 
 // The first and depth that lines give, in place of those that the children give.
 pub fn put_spans(s: &[u8], nodes: &mut [u64]) {
     let mut n = 0;
-    let mut at = 0;
-    while at < s.len() {
-        let e = find(s, at, b'\n');
-        n = put_given(nodes, n, read(&s[at..e]));
-        at = past(s, e);
+    for l in s.split(|b| *b == b'\n') {
+        n = put_given(nodes, n, read(l));
     }
 }
 
@@ -105,9 +93,9 @@ fn put_pair(kinds: &mut [u8], payloads: &mut [u64], n: usize, kind: u8, payload:
     n
 }
 
-fn put_value(kinds: &mut [u8], payloads: &mut [u64], n: usize, l: Line) -> usize {
-    match l {
-        Line::Value(k, p) => put_pair(kinds, payloads, n, k, p),
+fn put_value(kinds: &mut [u8], payloads: &mut [u64], n: usize, r: Result<Line, Wrong>) -> usize {
+    match r {
+        Ok(Line::Value(k, p)) => put_pair(kinds, payloads, n, k, p),
         _ => n,
     }
 }
@@ -115,23 +103,12 @@ fn put_value(kinds: &mut [u8], payloads: &mut [u64], n: usize, l: Line) -> usize
 // The values of the registers.
 pub fn put_values(s: &[u8], kinds: &mut [u8], payloads: &mut [u64]) {
     let mut n = 0;
-    let mut at = 0;
-    while at < s.len() {
-        let e = find(s, at, b'\n');
-        n = put_value(kinds, payloads, n, read(&s[at..e]));
-        at = past(s, e);
+    for l in s.split(|b| *b == b'\n') {
+        n = put_value(kinds, payloads, n, read(l));
     }
 }
 
-// Whether a line ends an expression.
-fn is_end(l: &[u8]) -> bool {
-    match read(l) {
-        Line::End => true,
-        _ => false,
-    }
-}
-
-// The position after the expression that begins at `from`.
+// The position after the expression that begins at `from`. The loop goes by positions, since a position is its answer.
 pub fn end_of(s: &[u8], from: usize) -> usize
     requires { from < length s.now }
     ensures lower_bound { from < result }
@@ -140,7 +117,7 @@ pub fn end_of(s: &[u8], from: usize) -> usize
     let mut at = from;
     while at < s.len() {
         let e = find(s, at, b'\n');
-        let ended = is_end(&s[at..e]);
+        let ended = matches!(read(&s[at..e]), Ok(Line::End));
         at = past(s, e);
         if ended {
             return at;

@@ -12,23 +12,18 @@ ghost use Rattle.reader.specs.Line.{first_words, value_words, read_of, real_of, 
 ghost use Rattle.reader.specs.Line.{bare_of, plain_of, given_of, node_of, setting_of, pair_of, atom_of, value_of, end_of};
 ghost use Rattle.reader.specs.Line.{word_of, kind_of, first_of, fields_line, line_of};
 
-use text::decimal::{Real, float};
-use text::fields::{Place, count, nth, place_of};
-use text::numeral::{Read, int, unsigned};
+use text::decimal::{DecimalError, float};
+use text::fields::{count, next_field, nth, place_of};
+use text::numeral::{NumeralError, int, unsigned};
 use text::scan::find;
 
 // Why a line cannot be read.
-#[derive(Clone, Copy)]
+#[derive(Clone, Copy, Debug, PartialEq, Eq)]
 pub enum Trouble {
     // No kind of node, and no other word that a line can begin with.
     NoSuchWord,
-    NoNumber,
-    // 64 bits do not hold it.
-    TooLarge,
-    // More digits after the point than are read.
-    TooLong,
-    // A decimal between two floats; the pattern of the one nearer to zero.
-    Between(u64),
+    // No number, or none that is taken.
+    Number(DecimalError),
     Missing,
     // More fields than the line can have.
     TooMuch,
@@ -37,15 +32,15 @@ pub enum Trouble {
     NoValue,
 }
 
-// A number that a line has; or why not, and which field is at fault.
-#[derive(Clone, Copy)]
-enum Number {
-    Is(u64),
-    Wrong(Trouble, usize),
+// Why a line cannot be read, and which field is at fault, counted from 0.
+#[derive(Clone, Copy, Debug, PartialEq, Eq)]
+pub struct Wrong {
+    pub trouble: Trouble,
+    pub field: usize,
 }
 
 // What a line says.
-#[derive(Clone, Copy)]
+#[derive(Clone, Copy, Debug, PartialEq, Eq)]
 pub enum Line {
     Nothing,
     // The end of an expression.
@@ -61,223 +56,232 @@ pub enum Line {
     Budget(u64),
     // The value of the next register: the kind byte and the payload of a pair.
     Value(u8, u64),
-    // Why it cannot be read, and which field is at fault, counted from 0.
-    Wrong(Trouble, usize),
 }
 
-fn of_read(n: usize, r: Read) -> Number
-    ensures { result ≡ read_of n r }
-{
-    match r {
-        Read::Is(x) => Number::Is(x),
-        Read::NoNumber => Number::Wrong(Trouble::NoNumber, n),
-        Read::TooLarge => Number::Wrong(Trouble::TooLarge, n),
-    }
-}
-
-fn of_real(n: usize, r: Real) -> Number
+#[tactic(auto, unfolding(crate::specs::Line::real_of))]
+fn of_real(n: usize, r: Result<u64, DecimalError>) -> Result<u64, Wrong>
     ensures { result ≡ real_of n r }
 {
-    match r {
-        Real::Is(p) => Number::Is(p),
-        Real::Between(p) => Number::Wrong(Trouble::Between(p), n),
-        Real::NoNumber => Number::Wrong(Trouble::NoNumber, n),
-        Real::TooLarge => Number::Wrong(Trouble::TooLarge, n),
-        Real::TooLong => Number::Wrong(Trouble::TooLong, n),
-    }
+    r.map_err(|e| Wrong {
+        trouble: Trouble::Number(e),
+        field: n,
+    })
+}
+
+#[tactic(auto, unfolding(crate::specs::Line::read_of, crate::specs::Line::real_of))]
+fn of_read(n: usize, r: Result<u64, NumeralError>) -> Result<u64, Wrong>
+    ensures { result ≡ read_of n r }
+{
+    of_real(n, r.map_err(|e| DecimalError::from(e)))
 }
 
 // The payload of a kind, as text.
-fn payload(n: usize, kind: u64, s: &[u8]) -> Number
+#[tactic(auto, unfolding(crate::specs::Line::payload_of))]
+fn payload(n: usize, kind: u64, s: &[u8]) -> Result<u64, Wrong>
     ensures { result ≡ payload_of n kind s.now }
 {
-    if kind == table::INT {
-        return of_read(n, int(s));
+    match kind {
+        table::INT => of_read(n, int(s)),
+        table::FLOAT => of_real(n, float(s)),
+        _ => of_read(n, unsigned(s)),
     }
-    if kind == table::FLOAT {
-        return of_real(n, float(s));
-    }
-    of_read(n, unsigned(s))
 }
 
 // Field n as the payload of a kind.
-fn number_in(kind: u64, n: usize, s: &[u8]) -> Number
+#[tactic(auto, unfolding(crate::specs::Line::number_of))]
+fn number_in(kind: u64, n: usize, s: &[u8]) -> Result<u64, Wrong>
     ensures { result ≡ number_of kind n (fields_of s.now) }
 {
     if count(s) <= n {
-        return Number::Wrong(Trouble::Missing, n);
+        return Err(Wrong {
+            trouble: Trouble::Missing,
+            field: n,
+        });
     }
-    let w = nth(s, n);
-    let from = w.from;
-    let to = w.to;
-    payload(n, kind, &s[from..to])
+    payload(n, kind, nth(s, n))
 }
 
 // The same of the line's last field.
-fn last_number(kind: u64, n: usize, s: &[u8]) -> Number
+#[tactic(auto, unfolding(crate::specs::Line::last_of))]
+fn last_number(kind: u64, n: usize, s: &[u8]) -> Result<u64, Wrong>
     requires { n < 1000 }
     ensures { result ≡ last_of kind n (fields_of s.now) }
 {
     if n + 1 < count(s) {
-        return Number::Wrong(Trouble::TooMuch, n + 1);
+        return Err(Wrong {
+            trouble: Trouble::TooMuch,
+            field: n + 1,
+        });
     }
     number_in(kind, n, s)
 }
 
 // A node that has its kind alone.
-fn bare(kind: u64) -> Line
+#[tactic(auto, unfolding(crate::specs::Line::bare_of))]
+fn bare(kind: u64) -> Result<Line, Wrong>
     ensures { result ≡ bare_of kind }
 {
-    if kind < table::INT {
-        return Line::Node(kind, 0);
+    match kind {
+        table::INT..=table::REF => Err(Wrong {
+            trouble: Trouble::Missing,
+            field: 1,
+        }),
+        _ => Ok(Line::Node(kind, 0)),
     }
-    if kind <= table::REF {
-        return Line::Wrong(Trouble::Missing, 1);
-    }
-    Line::Node(kind, 0)
 }
 
-fn plain(kind: u64, payload: Number) -> Line
+#[tactic(auto, unfolding(crate::specs::Line::plain_of))]
+fn plain(kind: u64, payload: Result<u64, Wrong>) -> Result<Line, Wrong>
     ensures { result ≡ plain_of kind payload }
 {
-    match payload {
-        Number::Is(p) => Line::Node(kind, p),
-        Number::Wrong(t, n) => Line::Wrong(t, n),
-    }
+    Ok(Line::Node(kind, payload?))
 }
 
-fn given(kind: u64, payload: Number, first: Number, depth: Number) -> Line
+#[tactic(auto, unfolding(crate::specs::Line::given_of))]
+fn given(
+    kind: u64,
+    payload: Result<u64, Wrong>,
+    first: Result<u64, Wrong>,
+    depth: Result<u64, Wrong>,
+) -> Result<Line, Wrong>
     ensures { result ≡ given_of kind payload first depth }
 {
-    let Number::Is(p) = payload else {
-        return plain(kind, payload);
-    };
-    let Number::Is(f) = first else {
-        return plain(kind, first);
-    };
-    let Number::Is(d) = depth else {
-        return plain(kind, depth);
-    };
-    Line::Given(kind, p, f, d)
+    let p = payload?;
+    let f = first?;
+    let d = depth?;
+    Ok(Line::Given(kind, p, f, d))
 }
 
 // A node by its fields, of which the first is its kind.
-fn node(kind: u64, s: &[u8]) -> Line
+#[tactic(auto, unfolding(crate::specs::Line::node_of))]
+fn node(kind: u64, s: &[u8]) -> Result<Line, Wrong>
     ensures { result ≡ node_of kind (fields_of s.now) }
 {
     match count(s) {
         1 => bare(kind),
         2 => plain(kind, number_in(kind, 1, s)),
-        3 => Line::Wrong(Trouble::HalfGiven, 2),
+        3 => Err(Wrong {
+            trouble: Trouble::HalfGiven,
+            field: 2,
+        }),
         4 => given(
             kind,
             number_in(kind, 1, s),
             number_in(table::REF, 2, s),
             number_in(table::REF, 3, s),
         ),
-        _ => Line::Wrong(Trouble::TooMuch, 4),
+        _ => Err(Wrong {
+            trouble: Trouble::TooMuch,
+            field: 4,
+        }),
     }
 }
 
-fn setting(word: usize, number: Number) -> Line
+#[tactic(auto, unfolding(crate::specs::Line::setting_of))]
+fn setting(word: usize, number: Result<u64, Wrong>) -> Result<Line, Wrong>
     ensures { result ≡ setting_of word number }
 {
-    let Number::Is(x) = number else {
-        return plain(0, number);
-    };
-    match word {
+    let x = number?;
+    Ok(match word {
         27 => Line::Params(x),
         28 => Line::Locals(x),
         29 => Line::Dest(x),
         _ => Line::Budget(x),
-    }
+    })
 }
 
-fn pair(kind: u8, payload: Number) -> Line
+#[tactic(auto, unfolding(crate::specs::Line::pair_of))]
+fn pair(kind: u8, payload: Result<u64, Wrong>) -> Result<Line, Wrong>
     ensures { result ≡ pair_of kind payload }
 {
-    match payload {
-        Number::Is(p) => Line::Value(kind, p),
-        Number::Wrong(t, n) => Line::Wrong(t, n),
-    }
+    Ok(Line::Value(kind, payload?))
 }
 
 // A value that has no number.
-fn atom(kind: u8, payload: u64, s: &[u8]) -> Line
+#[tactic(auto, unfolding(crate::specs::Line::atom_of))]
+fn atom(kind: u8, payload: u64, s: &[u8]) -> Result<Line, Wrong>
     ensures { result ≡ atom_of kind payload (fields_of s.now) }
 {
     if 2 < count(s) {
-        return Line::Wrong(Trouble::TooMuch, 2);
+        return Err(Wrong {
+            trouble: Trouble::TooMuch,
+            field: 2,
+        });
     }
-    Line::Value(kind, payload)
+    Ok(Line::Value(kind, payload))
 }
 
-fn value(place: Place, s: &[u8]) -> Line
+#[tactic(auto, unfolding(crate::specs::Line::value_of))]
+fn value(place: Option<usize>, s: &[u8]) -> Result<Line, Wrong>
     ensures { result ≡ value_of place (fields_of s.now) }
 {
     match place {
-        Place::At(n) => match n {
-            0 => atom(0, 0, s),
-            1 => atom(1, 1, s),
-            2 => atom(1, 0, s),
-            3 => pair(2, last_number(table::INT, 2, s)),
-            _ => pair(3, last_number(table::FLOAT, 2, s)),
-        },
-        Place::Nowhere => Line::Wrong(Trouble::NoValue, 1),
+        Some(0) => atom(0, 0, s),
+        Some(1) => atom(1, 1, s),
+        Some(2) => atom(1, 0, s),
+        Some(3) => pair(2, last_number(table::INT, 2, s)),
+        Some(_) => pair(3, last_number(table::FLOAT, 2, s)),
+        None => Err(Wrong {
+            trouble: Trouble::NoValue,
+            field: 1,
+        }),
     }
 }
 
 // The kind of value that a line's second field names.
-fn value_place(s: &[u8]) -> Place
+fn value_place(s: &[u8]) -> Option<usize>
     ensures { result ≡ place_of (get_or (fields_of s.now) 1 []) (map bytes value_words) }
 {
-    let w = nth(s, 1);
-    let from = w.from;
-    let to = w.to;
-    place_of(&s[from..to], b"nil true false int float")
+    place_of(nth(s, 1), b"nil true false int float")
 }
 
-fn end(s: &[u8]) -> Line
+#[tactic(auto, unfolding(crate::specs::Line::end_of))]
+fn end(s: &[u8]) -> Result<Line, Wrong>
     ensures { result ≡ end_of (fields_of s.now) }
 {
     if 1 < count(s) {
-        return Line::Wrong(Trouble::TooMuch, 1);
+        return Err(Wrong {
+            trouble: Trouble::TooMuch,
+            field: 1,
+        });
     }
-    Line::End
+    Ok(Line::End)
 }
 
 // A line by the place of its first word.
-fn by_word(k: usize, s: &[u8]) -> Line
+#[tactic(auto, unfolding(crate::specs::Line::word_of))]
+fn by_word(k: usize, s: &[u8]) -> Result<Line, Wrong>
     ensures { result ≡ word_of k (fields_of s.now) }
 {
-    if k < 27 {
-        return node(k as u64, s);
+    match k {
+        0..=26 => node(k as u64, s),
+        27..=30 => setting(k, last_number(table::REF, 1, s)),
+        31 => value(value_place(s), s),
+        32 => Ok(Line::Title),
+        _ => end(s),
     }
-    if k < 31 {
-        return setting(k, last_number(table::REF, 1, s));
-    }
-    if k == 31 {
-        return value(value_place(s), s);
-    }
-    if k == 32 {
-        return Line::Title;
-    }
-    end(s)
 }
 
 // A line by the number of a kind.
-fn by_number(r: Read, s: &[u8]) -> Line
+#[tactic(auto, unfolding(crate::specs::Line::kind_of))]
+fn by_number(r: Result<u64, NumeralError>, s: &[u8]) -> Result<Line, Wrong>
     ensures { result ≡ kind_of r (fields_of s.now) }
 {
     match r {
-        Read::Is(k) => node(k, s),
-        Read::NoNumber => Line::Wrong(Trouble::NoSuchWord, 0),
-        Read::TooLarge => Line::Wrong(Trouble::TooLarge, 0),
+        Ok(k) => node(k, s),
+        Err(NumeralError::NoNumber) => Err(Wrong {
+            trouble: Trouble::NoSuchWord,
+            field: 0,
+        }),
+        Err(NumeralError::TooLarge) => Err(Wrong {
+            trouble: Trouble::Number(DecimalError::TooLarge),
+            field: 0,
+        }),
     }
 }
 
 // The place of a word among those that a line can begin with.
-fn first_place(w: &[u8]) -> Place
+fn first_place(w: &[u8]) -> Option<usize>
     ensures { result ≡ place_of w.now (map bytes first_words) }
 {
     place_of(
@@ -287,32 +291,32 @@ fn first_place(w: &[u8]) -> Place
     )
 }
 
-fn by_place(place: Place, w: &[u8], s: &[u8]) -> Line
+#[tactic(auto, unfolding(crate::specs::Line::first_of))]
+fn by_place(place: Option<usize>, w: &[u8], s: &[u8]) -> Result<Line, Wrong>
     requires { w.now ≡ get_or (fields_of s.now) 0 [] }
     ensures { result ≡ first_of place (fields_of s.now) }
 {
     match place {
-        Place::At(k) => by_word(k, s),
-        Place::Nowhere => by_number(unsigned(w), s),
+        Some(k) => by_word(k, s),
+        None => by_number(unsigned(w), s),
     }
 }
 
 // A line without its comment.
-fn read_bare(s: &[u8]) -> Line
+#[tactic(auto, unfolding(crate::specs::Line::fields_line))]
+fn read_bare(s: &[u8]) -> Result<Line, Wrong>
     ensures { result ≡ fields_line (fields_of s.now) }
 {
     if count(s) == 0 {
-        return Line::Nothing;
+        return Ok(Line::Nothing);
     }
-    let f = nth(s, 0);
-    let from = f.from;
-    let to = f.to;
-    let w = &s[from..to];
+    let w = nth(s, 0);
     by_place(first_place(w), w, s)
 }
 
 // A line.
-pub fn read(s: &[u8]) -> Line
+#[tactic(auto, unfolding(crate::specs::Line::line_of))]
+pub fn read(s: &[u8]) -> Result<Line, Wrong>
     ensures { result ≡ line_of s.now }
 {
     let e = find(s, 0, b'#');
@@ -324,6 +328,8 @@ pub fn title_from(s: &[u8]) -> usize
     ensures { result ≤ length s.now }
 {
     let e = find(s, 0, b'#');
-    let w = nth(&s[..e], 0);
-    w.to
+    match next_field(&s[..e]) {
+        Some((_, rest)) => e - rest.len(),
+        None => e,
+    }
 }

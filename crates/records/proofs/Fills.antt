@@ -2,9 +2,10 @@
 --     flat-put         the next record is put after those before it
 --     copied, kept     the words where there is room for all the records, and where there is not
 --     prefix           the records' part of the words
+--     prefix-is        what is asked of that part, once the room was looked at, is asked of the records
 --     check-is, evaluate-is, compile-is     what is said of that part, and of a refusal, is said of the records
 --     same_number, same_answer, same-compile     with room for the records, however many they are, all are the word table's
-use Rattle.std.specs.Prelude.{Option, None, Result, Ok, Err}
+use Rattle.std.specs.Prelude.{Option, None, Ok, Err}
 use Prim.Native.Nat.{ℕ, ◌+◌, ◌*◌, ◌/◌, ◌%◌, ◌≤◌, ◌<◌, min}
 use native.Mathlib.Numerals.{add-one}
 use native.Mathlib.Omega.{arith}
@@ -12,7 +13,7 @@ use mathlib.Core.Path.{◌≡◌, refl, sym, ◌∙◌, ap}
 use mathlib.Core.Bool.{Bool, true, false, not}
 use mathlib.Core.List.{List, [], ◌∷◌, ◌++◌}
 use lib.Dec.{ltb, eqb}
-use lib.ListN.{length, get_or, take, drop}
+use lib.ListN.{length, get_or, take, drop, length-append, length-drop}
 use lib.Seq.{take-suc, length-take-le, take-append_seam}
 use borrow.Author.Tests.{lt-ltb, ltb-true, ltb-false}
 use borrow.Rule.Slice.PartMut.{put_mid}
@@ -22,15 +23,13 @@ use Rattle.faults.specs.Faults.{Checked, fault, ◌or_else◌}
 use Rattle.faults.specs.Limits.{max_nodes}
 use Rattle.faults.specs.Numbers.{bad_shape}
 use Rattle.table.specs.Table.{shape_fault, check_of}
-use Rattle.value.specs.Answer.{Answer, fault as faulted}
+use Rattle.value.specs.Answer.{fault as faulted}
 use Rattle.eval.specs.Evaluate.{unless, evaluate_of}
 use Rattle.emit.specs.State.{fail}
-use Rattle.compile.specs.Compile.{accepted, compile_of}
-use Rattle.compile.specs.Buffers.{Compiles}
-use Rattle.compile.specs.declared.buffers.Compiled.{Compiled}
+use Rattle.compile.specs.Compile.{compile_of}
 use Rattle.records.specs.Records.{room_fault, words_of, compile_nodes, flat, holding, flattened, check_nodes, evaluate_nodes}
 use Rattle.records.specs.declared.Node.{Node}
-use Rattle.records.proofs.Laws.{many, fits}
+use Rattle.records.proofs.Laws.{many, fits, has_room}
 
 -- ---- the words of the records
 
@@ -68,6 +67,27 @@ module _ (ds : List Node) (ws : List ℕ) where
   pub prefix : Ok tt ≡ room_fault (length ds) (length ws) → {us : List ℕ} → us ≡ flattened ds ws → take (4 * length ds) us ≡ flat ds
   prefix e u =
       rw (u, ← copied e) (ap (λ (n : ℕ). take n (flat ds ++ drop (4 * length ds) ws)) (sym (length-flat ds)) ∙ take-append_seam (flat ds) _)
+
+-- Whatever is asked of a table once the room was looked at: of the prefix and of the records it is the same. A refusal (`stop`) does not look at the table.
+module _ {A : Type 0} (guard : Checked → A → A) (stop : (f : Fault) (x y : A) → guard (Err f) x ≡ guard (Err f) y) (ask : List ℕ → A) (ds : List Node) (ws : List ℕ) where
+  pub prefix-is : guard (room_fault (length ds) (length (flattened ds ws))) (ask (take (4 * length ds) (flattened ds ws))) ≡ guard (room_fault (length ds) (length ws)) (ask (flat ds))
+  prefix-is = by-fault (room_fault (length ds) (length ws)) refl
+    where
+      same-length : (e : Ok tt ≡ room_fault (length ds) (length ws)) → length (flattened ds ws) ≡ length ws
+      same-length e =
+          let r = has_room (length ds) (length ws) e in
+          let l = length-flat ds in
+          let m = length-append (flat ds) (drop (4 * length ds) ws) in
+          let n = length-drop (4 * length ds) ws in
+          sym (ap length (copied ds ws e)) ∙ omega (arith, r, l, m, n)
+
+      by-fault : (f : Checked) → f ≡ room_fault (length ds) (length ws) →
+          guard (room_fault (length ds) (length (flattened ds ws))) (ask (take (4 * length ds) (flattened ds ws))) ≡ guard (room_fault (length ds) (length ws)) (ask (flat ds))
+      by-fault (Ok tt) e = rw (same-length e, prefix ds ws e refl)
+      by-fault (Err f) e =
+          let k = sym (kept ds ws e) in
+          ap (λ (us : List ℕ). guard (room_fault (length ds) (length us)) (ask (take (4 * length ds) us))) k
+          ∙ ap (λ (c : Checked). guard c (ask (take (4 * length ds) ws))) (sym e) ∙ stop f _ _ ∙ ap (λ (c : Checked). guard c (ask (flat ds))) e
 
 -- ---- with m words lent, there is room (e) or there is none
 

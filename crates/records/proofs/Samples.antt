@@ -17,9 +17,9 @@ sum : List Node
 sum = node 5 0 0 1 ∷ node 3 5 1 1 ∷ node 13 0 0 2 ∷ []
 
 -- with room for its twelve words it has the word table's answer, with less 7; no record at all is 1
-checks : (check_nodes sum 12 1 0 None ≡ Ok tt) × (check_nodes sum 12 1 0 (Some 1) ≡ Err not_local) × (check_nodes sum 11 1 0 None ≡ Err no_room) × (check_nodes [] 0 1 0 None ≡ Err bad_shape)
+numbers : (check_nodes sum 12 1 0 None ≡ Ok tt) × (check_nodes sum 12 1 0 (Some 1) ≡ Err not_local) × (check_nodes sum 11 1 0 None ≡ Err no_room) × (check_nodes [] 0 1 0 None ≡ Err bad_shape)
 unfolding sum check_nodes flat room_fault check_of shape_fault layout_fault dest_fault nodes_fault node_fault span_fault children arity last_fault fault ◌or_else◌
-checks = (refl, refl, refl, refl)
+numbers = (refl, refl, refl, refl)
 
 -- the words lent: the records' words and what stood after them, or all as it was
 words : (flattened sum (9 ∷ 9 ∷ 9 ∷ 9 ∷ 9 ∷ 9 ∷ 9 ∷ 9 ∷ 9 ∷ 9 ∷ 9 ∷ 9 ∷ 8 ∷ []) ≡ 5 ∷ 0 ∷ 0 ∷ 1 ∷ 3 ∷ 5 ∷ 1 ∷ 1 ∷ 13 ∷ 0 ∷ 0 ∷ 2 ∷ 8 ∷ []) × (flattened sum (9 ∷ 8 ∷ []) ≡ 9 ∷ 8 ∷ [])

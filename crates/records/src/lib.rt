@@ -7,12 +7,12 @@ ghost use Rattle.value.specs.Answer.{result_of};
 ghost use Rattle.compile.specs.Buffers.{Compiles};
 ghost use Rattle.records.specs.Records.{room_fault, words_of, flattened, check_nodes, evaluate_nodes, compile_nodes};
 
-use faults::Fault;
-use value::Value;
 use compile::buffers::{Compiled, refuse};
 use compile::compile;
 use eval::evaluate;
+use faults::Fault;
 use table::check::check;
+use value::Value;
 
 // A node of a table: the four words of document 01, by name.
 #[derive(Clone, Copy)]
@@ -109,7 +109,15 @@ pub fn compile_nodes(
         × (words.new ≡ flattened nodes.now words.old) }
 {
     match flatten(nodes, words) {
-        Ok(()) => compile(&words[..4 * nodes.len()], params, locals, dest, code, kinds, payloads),
+        Ok(()) => compile(
+            &words[..4 * nodes.len()],
+            params,
+            locals,
+            dest,
+            code,
+            kinds,
+            payloads,
+        ),
         Err(f) => refuse(f, code, kinds, payloads),
     }
 }

@@ -1,5 +1,5 @@
 -- Numbers of 64 bits as runs of bytes, least byte first.
-use Rattle.std.specs.Prelude.{◌≡◌, ℕ, ◌*◌, List, drop, ⊤, Option, None, Some}
+use Rattle.std.specs.Prelude.{◌≡◌, ℕ, ◌*◌, ◌^◌, ◌<◌, List, drop, ⊤, Option, None, Some}
 use Rattle.std.specs.List.{flat_map}
 use Rattle.std.specs.Int.{to_le_bytes, from_le_bytes, w64}
 
@@ -16,3 +16,7 @@ abbrev pub DropsNumbers : Option (List ℕ) → Option (List ℕ) → ℕ → Ty
 DropsNumbers None new n = ⊤
 DropsNumbers (Some xs) None n = ⊥
 DropsNumbers (Some xs) (Some ys) n = ys ≡ drop (8 * n) xs
+
+-- an element is one that number i of the bytes makes
+unfoldable pub MadeOf : {T : Type 0} → (ℕ → T → Type 0) → List ℕ → ℕ → T → Type 0
+MadeOf makes bytes i x = (w : ℕ) × (w < 2 ^ 64) × (w ≡ nth_number bytes i) × makes w x

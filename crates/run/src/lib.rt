@@ -1,11 +1,11 @@
 // A run with a budget, and the run of a part of a store.
 #![tactic(auto)]
 
-ghost use Rattle.std.specs.Prelude.{◌≡◌, length, ◌<◌};
+ghost use Rattle.std.specs.Prelude.{◌≡◌, length, ◌<◌, Err};
 ghost use Rattle.value.specs.Refs.{SameSlices};
 ghost use Rattle.fast.specs.Plan.{Within};
 ghost use Rattle.machine.specs.Step.{after, step_of};
-ghost use Rattle.machine.specs.Run.{out, run_from, run_of, run_part_of};
+ghost use Rattle.machine.specs.Run.{out, ran, run_from, run_of, run_part_of};
 
 use fast::step::quick_step;
 use faults::Fault;
@@ -13,8 +13,18 @@ use machine::run::Ran;
 use machine::step::step;
 use value::pairs::{Pairs, PairsMut};
 
-// The step at a position: the quick one where it is taken, else the general one. `room` and `slot_room` are the registers and slots that the
-// quick step looks at: any smaller ones would do, at the cost of speed alone.
+// A run that stops, with the steps that it took and where.
+fn stopped(fault: Fault, steps: u64, position: usize) -> Ran
+    ensures { result ≡ ran (Err fault) steps position }
+{
+    Ran {
+        end: Err(fault),
+        steps,
+        position,
+    }
+}
+
+// The step at a position: the quick one where it is taken, else the general one.
 fn next(
     words: &[u64],
     at: usize,
@@ -31,7 +41,7 @@ fn next(
         registers.old.kinds.now registers.old.payloads.now }
     ensures same_slices { SameSlices registers.old registers.new }
 {
-    let Some(p) = quick_step(
+    match quick_step(
         words,
         at,
         room,
@@ -40,10 +50,10 @@ fn next(
         slot_room,
         slots.kinds,
         slots.payloads,
-    ) else {
-        return step(words, at, registers, slots);
-    };
-    Ok(p)
+    ) {
+        Some(p) => Ok(p),
+        None => step(words, at, registers, slots),
+    }
 }
 
 // The steps one after the other. A stopping step is not counted, and the end comes before the budget.
@@ -59,42 +69,31 @@ fn run_from(
         registers.old.kinds.now registers.old.payloads.now }
     ensures same_slices { SameSlices registers.old registers.new }
 {
+    // The registers and slots that the quick step looks at: any smaller numbers would do, at the cost of speed alone.
     let room = registers.shared().len().min(0x1_0000);
     let slot_room = slots.len().min(0x1_0000_0000);
     let mut at = start;
     let mut steps = 0;
     while at < words.len() {
         if steps == budget {
-            return Ran {
-                end: Err(Fault::BudgetSpent),
-                steps: steps,
-                position: at,
-            };
+            return stopped(Fault::BudgetSpent, steps, at);
         }
-        let before = steps;
-        steps += 1;
         match next(words, at, room, registers, slot_room, slots) {
-            Ok(p) => {
-                at = p;
-            }
-            Err(n) => {
-                return Ran {
-                    end: Err(n),
-                    steps: before,
-                    position: at,
-                };
-            }
+            Ok(p) => at = p,
+            Err(fault) => return stopped(fault, steps, at),
         }
+        steps += 1;
     }
     Ran {
         end: Ok(()),
-        steps: steps,
+        steps,
         position: at,
     }
 }
 
 // Runs the words from a start on, with registers and slots lent as pairs and at most `budget` steps. The pairs are looked at once, before
 // the first step, so that no step meets an ill-formed one.
+#[tactic(auto, unfolding(machine::specs::Run::run_of))]
 pub fn run(
     words: &[u64],
     start: usize,
@@ -108,30 +107,15 @@ pub fn run(
         ≡ run_of words.now slot_kinds.now slot_payloads.now budget start kinds.old payloads.old }
 {
     if words.len() < start {
-        return Ran {
-            end: Err(Fault::OutOfRange),
-            steps: 0,
-            position: start,
-        };
+        return stopped(Fault::OutOfRange, 0, start);
     }
     let mut registers = PairsMut { kinds, payloads };
     let slots = Pairs {
         kinds: slot_kinds,
         payloads: slot_payloads,
     };
-    if !registers.shared().all_well() {
-        return Ran {
-            end: Err(Fault::IllFormed),
-            steps: 0,
-            position: 0,
-        };
-    }
-    if !slots.all_well() {
-        return Ran {
-            end: Err(Fault::IllFormed),
-            steps: 0,
-            position: 0,
-        };
+    if !registers.shared().all_well() || !slots.all_well() {
+        return stopped(Fault::IllFormed, 0, 0);
     }
     run_from(words, start, &mut registers, slots, budget)
 }
@@ -152,19 +136,8 @@ pub fn run_part(
         ≡ run_part_of store.now entry end slot_kinds.now slot_payloads.now budget
         kinds.old payloads.old }
 {
-    if end < entry {
-        return Ran {
-            end: Err(Fault::OutOfRange),
-            steps: 0,
-            position: entry,
-        };
-    }
-    if store.len() < end {
-        return Ran {
-            end: Err(Fault::OutOfRange),
-            steps: 0,
-            position: entry,
-        };
+    if end < entry || store.len() < end {
+        return stopped(Fault::OutOfRange, 0, entry);
     }
     run(
         &store[entry..end],

@@ -1,9 +1,7 @@
 -- The fields of a line, and the place of a word in a list of words. A text is a list of bytes.
-use Rattle.std.specs.Prelude.{ℕ, ◌+◌, Bool, true, false, ◌&&◌, ◌||◌, cond, List, [], ◌∷◌, eqb}
+use Rattle.std.specs.Prelude.{ℕ, ◌+◌, Bool, true, false, ◌&&◌, ◌||◌, cond, List, [], ◌∷◌, Option, Some, None, eqb}
 use Prim.Native.String.{String, [] as end, ◌∷◌ as ◌then◌}
 use Prim.Native.Char.{code}
-use Rattle.text.specs.declared.fields.Place.{Place}
-use Rattle.text.specs.declared.fields.Place.TheVariants.{At, Nowhere}
 
 -- a quoted text as bytes; every character that is quoted here is one byte
 abbrev pub bytes : String → List ℕ
@@ -42,12 +40,12 @@ same (a ∷ s) [] = false
 same (a ∷ s) (b ∷ t) = eqb a b && same s t
 
 -- the place of w among words, of which the first has the number n
-unfoldable pub place_from : ℕ → List ℕ → List (List ℕ) → Place
+unfoldable pub place_from : ℕ → List ℕ → List (List ℕ) → Option ℕ
 unfolding same
-place_from n w [] = Nowhere
-place_from n w (x ∷ xs) = cond (same x w) (At n) (place_from (n + 1) w xs)
+place_from n w [] = None
+place_from n w (x ∷ xs) = cond (same x w) (Some n) (place_from (n + 1) w xs)
 
 -- counted from 0
-unfoldable pub place_of : List ℕ → List (List ℕ) → Place
+unfoldable pub place_of : List ℕ → List (List ℕ) → Option ℕ
 unfolding place_from
 place_of w xs = place_from 0 w xs

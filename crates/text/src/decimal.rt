@@ -1,23 +1,36 @@
 // A float as text: a decimal, the digits of its pattern, or a name. A decimal is never rounded: one that no float is equal to is refused with its neighbours.
-ghost use Rattle.std.specs.Prelude.{◌≡◌, true, cond, ◌+◌, ◌*◌, ◌^◌, ◌<◌, ◌≤◌, eqb, length};
+ghost use Rattle.std.specs.Prelude.{◌≡◌, true, cond, ◌+◌, ◌*◌, ◌^◌, ◌<◌, ◌≤◌, eqb, length, Ok, Err};
 ghost use Rattle.float.specs.Float.{with_sign_bit};
-ghost use Rattle.text.specs.declared.decimal.Real.TheVariants.{Is, Between};
-ghost use Rattle.text.specs.Decimal.{is_digit, all_digits, value_of, decimal_of, parts_of, point_of, plain_of, signed_of, pattern_of, named_of, float_of};
+ghost use Rattle.text.specs.declared.decimal.DecimalError.TheVariants.{Between};
+ghost use Rattle.text.specs.Refusals.{of_numeral};
+ghost use Rattle.text.specs.Decimal.{all_digits, value_of, decimal_of, parts_of, point_of, plain_of, signed_of, pattern_of, named_of, float_of};
 ghost use Rattle.text.specs.Doubling.{Doubled};
 
-use crate::fields::{Place, place_of};
-use crate::numeral::{Read, digits, digits_from, is_hex};
+use crate::fields::place_of;
+use crate::numeral::{NumeralError, digits, hex_digits};
 use crate::scan::find;
 
-// What a text says: a float's pattern; that it lies between two floats, with the pattern of the one nearer to zero, which the next pattern follows;
-// or why it is no float.
-#[derive(Clone, Copy)]
-pub enum Real {
-    Is(u64),
-    Between(u64),
+// Why a text is no float.
+#[derive(Clone, Copy, Debug, PartialEq, Eq)]
+pub enum DecimalError {
     NoNumber,
+    // 64 bits do not hold the whole part, or the pattern.
     TooLarge,
+    // More digits after the point than are read.
     TooLong,
+    // It lies between two floats: the pattern of the one nearer to zero, which the next pattern follows.
+    Between(u64),
+}
+
+impl From<NumeralError> for DecimalError {
+    ghost from_gives = { λ e d. d ≡ of_numeral e };
+
+    fn from(e: NumeralError) -> DecimalError {
+        match e {
+            NumeralError::NoNumber => DecimalError::NoNumber,
+            NumeralError::TooLarge => DecimalError::TooLarge,
+        }
+    }
 }
 
 // How many digits after the point are read: no float has more than 1074.
@@ -27,27 +40,10 @@ const TWO_52: u64 = 0x10_0000_0000_0000;
 
 const TWO_53: u64 = 0x20_0000_0000_0000;
 
-fn is_digit(b: u8) -> bool
-    ensures { result ≡ is_digit b }
-{
-    if b < b'0' {
-        return false;
-    }
-    b < 58
-}
-
 fn all_digits(s: &[u8]) -> bool
     ensures { result ≡ all_digits s.now }
 {
-    let mut i = 0;
-    while i < s.len() {
-        if is_digit(s[i]) {
-            i += 1;
-        } else {
-            return false;
-        }
-    }
-    true
+    s.iter().all(|b| b.is_ascii_digit())
 }
 
 // Doubles the number that the digits make, in place; what is carried out of the first digit.
@@ -56,14 +52,12 @@ fn double(f: &mut [u8]) -> u64
     ensures { Doubled f.old f.new result }
 {
     let mut carry: u8 = 0;
-    let mut i = f.len();
-    while i > 0 {
-        i -= 1;
+    for i in (0..f.len()).rev() {
         let d = 2 * (f[i] - b'0') + carry;
         f[i] = b'0' + d % 10;
         carry = d / 10;
     }
-    carry as u64
+    u64::from(carry)
 }
 
 // Whether the number that the digits make is 0.
@@ -71,16 +65,10 @@ fn is_zero(f: &[u8]) -> bool
     requires { all_digits f.now ≡ true }
     ensures { result ≡ eqb (value_of f.now) 0 }
 {
-    let mut i = 0;
-    while i < f.len() {
-        if f[i] != b'0' {
-            return false;
-        }
-        i += 1;
-    }
-    true
+    f.iter().all(|d| *d == b'0')
 }
 
+#[tactic(auto, using(crate::proofs::decimal::Settling::answers))]
 fn with_sign(neg: bool, q: u64) -> u64
     requires { q < 2 ^ 63 }
     ensures { result ≡ with_sign_bit neg q }
@@ -92,20 +80,21 @@ fn with_sign(neg: bool, q: u64) -> u64
 }
 
 // The float of a pattern without a sign, or that the number lies between that float and the next.
-fn settle(neg: bool, q: u64, exact: bool) -> Real
+#[tactic(auto, using(crate::proofs::decimal::Settling::answers))]
+fn settle(neg: bool, q: u64, exact: bool) -> Result<u64, DecimalError>
     requires { q < 2 ^ 63 }
-    ensures { result ≡ cond exact (Is (with_sign_bit neg q)) (Between (with_sign_bit neg q)) }
+    ensures { result ≡ cond exact (Ok (with_sign_bit neg q)) (Err (Between (with_sign_bit neg q))) }
 {
     let p = with_sign(neg, q);
     if exact {
-        return Real::Is(p);
+        return Ok(p);
     }
-    Real::Between(p)
+    Err(DecimalError::Between(p))
 }
 
 // whole + f / 10^k, where 53 bits hold the whole part. Each turn brings one more binary digit of the fraction, until there are 53,
 // or the last is worth a step of 2^-1074. What is then left of the fraction is less than a step of the float.
-fn narrow(neg: bool, whole: u64, f: &mut [u8]) -> Real
+fn narrow(neg: bool, whole: u64, f: &mut [u8]) -> Result<u64, DecimalError>
     requires whole_bound { whole < 2 ^ 53 }
     requires f_value { all_digits f.old ≡ true }
     ensures { result ≡ decimal_of neg (whole * 10 ^ length f.old + value_of f.old) (length f.old) }
@@ -123,7 +112,7 @@ fn narrow(neg: bool, whole: u64, f: &mut [u8]) -> Real
 }
 
 // The same where the whole part has more than 53 bits, of which the last are dropped: p is what the last of the 53 is worth.
-fn wide(neg: bool, whole: u64, f: &[u8]) -> Real
+fn wide(neg: bool, whole: u64, f: &[u8]) -> Result<u64, DecimalError>
     requires bound { 2 ^ 53 ≤ whole }
     requires f_value { all_digits f.now ≡ true }
     ensures { result ≡ decimal_of neg (whole * 10 ^ length f.now + value_of f.now) (length f.now) }
@@ -143,7 +132,7 @@ fn wide(neg: bool, whole: u64, f: &[u8]) -> Real
 }
 
 // A whole part and the digits after the point.
-fn exactly(neg: bool, whole: u64, f: &[u8]) -> Real
+fn exactly(neg: bool, whole: u64, f: &[u8]) -> Result<u64, DecimalError>
     requires f_value { all_digits f.now ≡ true }
     requires f_len_bound { length f.now ≤ 1100 }
     ensures { result ≡ decimal_of neg (whole * 10 ^ length f.now + value_of f.now) (length f.now) }
@@ -157,26 +146,23 @@ fn exactly(neg: bool, whole: u64, f: &[u8]) -> Real
     narrow(neg, whole, &mut room[..k])
 }
 
-fn parts(neg: bool, whole: Read, f: &[u8]) -> Real
+#[tactic(auto, unfolding(crate::specs::Decimal::parts_of))]
+fn parts(neg: bool, whole: Result<u64, NumeralError>, f: &[u8]) -> Result<u64, DecimalError>
     ensures { result ≡ parts_of neg whole f.now }
 {
-    match whole {
-        Read::Is(a) => {
-            if all_digits(f) {
-                if f.len() <= DIGITS {
-                    return exactly(neg, a, f);
-                }
-                return Real::TooLong;
-            }
-            Real::NoNumber
-        }
-        Read::NoNumber => Real::NoNumber,
-        Read::TooLarge => Real::TooLarge,
+    let a = whole?;
+    if !all_digits(f) {
+        return Err(DecimalError::NoNumber);
     }
+    if f.len() <= DIGITS {
+        return exactly(neg, a, f);
+    }
+    Err(DecimalError::TooLong)
 }
 
 // A decimal without its sign.
-fn plain(neg: bool, s: &[u8]) -> Real
+#[tactic(auto, using(crate::proofs::decimal::Texts::points))]
+fn plain(neg: bool, s: &[u8]) -> Result<u64, DecimalError>
     ensures { result ≡ plain_of neg s.now }
 {
     let dot = find(s, 0, b'.');
@@ -185,56 +171,39 @@ fn plain(neg: bool, s: &[u8]) -> Real
     }
     let from = dot + 1;
     if from == s.len() {
-        return Real::NoNumber;
+        return Err(DecimalError::NoNumber);
     }
     parts(neg, digits(10, &s[..dot]), &s[from..])
 }
 
-fn after_sign(s: &[u8]) -> Real
+#[tactic(auto, using(crate::proofs::decimal::Texts::sides))]
+fn after_sign(s: &[u8]) -> Result<u64, DecimalError>
     ensures { result ≡ signed_of s.now }
 {
-    if s.len() == 0 {
-        return Real::NoNumber;
-    }
-    if s[0] == b'-' {
-        return plain(true, &s[1..]);
-    }
-    plain(false, s)
-}
-
-fn pattern(r: Read) -> Real
-    ensures { result ≡ pattern_of r }
-{
-    match r {
-        Read::Is(p) => Real::Is(p),
-        Read::NoNumber => Real::NoNumber,
-        Read::TooLarge => Real::TooLarge,
+    match s.strip_prefix(b"-") {
+        Some(d) => plain(true, d),
+        None => plain(false, s),
     }
 }
 
-fn named(place: Place, s: &[u8]) -> Real
+#[tactic(auto, unfolding(crate::specs::Decimal::named_of))]
+fn named(place: Option<usize>, s: &[u8]) -> Result<u64, DecimalError>
     ensures { result ≡ named_of place s.now }
 {
     match place {
-        Place::At(n) => {
-            if n == 0 {
-                return Real::Is(0x7ff8_0000_0000_0000);
-            }
-            if n == 1 {
-                return Real::Is(0x7ff0_0000_0000_0000);
-            }
-            Real::Is(0xfff0_0000_0000_0000)
-        }
-        Place::Nowhere => after_sign(s),
+        Some(0) => Ok(0x7ff8_0000_0000_0000),
+        Some(1) => Ok(0x7ff0_0000_0000_0000),
+        Some(_) => Ok(0xfff0_0000_0000_0000),
+        None => after_sign(s),
     }
 }
 
 // A float: 0x and the digits of its pattern; nan, inf or -inf; or a decimal.
-pub fn float(s: &[u8]) -> Real
+pub fn float(s: &[u8]) -> Result<u64, DecimalError>
     ensures { result ≡ float_of s.now }
 {
-    if is_hex(s) {
-        return pattern(digits_from(16, 2, s));
+    if let Some(d) = hex_digits(s) {
+        return Ok(digits(16, d)?);
     }
     named(place_of(s, b"nan inf -inf"), s)
 }

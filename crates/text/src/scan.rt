@@ -3,6 +3,7 @@ ghost use Rattle.std.specs.Prelude.{◌≡◌, ◌≢◌, ℕ, ◌+◌, ◌<◌,
 ghost use Rattle.text.specs.Bytes.{index_of};
 
 // The first position from `from` on where b stands; the end where there is none.
+#[tactic(auto, using(crate::proofs::scan::Finding::finds))]
 pub fn find(s: &[u8], from: usize, b: u8) -> usize
     requires { from ≤ length s.now }
     ensures value { result ≡ from + index_of b (drop from s.now) }

@@ -3,7 +3,6 @@ use Rattle.std.specs.Prelude.{◌≡◌, List, ℕ, zero, suc, min, length, Opti
 use Rattle.faults.specs.declared.Fault.{Fault}
 use Rattle.faults.specs.Numbers.{undecoded, no_fit, number, number_of}
 use Rattle.value.specs.Value.{kind_of, payload_of}
-use Rattle.value.specs.Answer as Answer
 use Rattle.value.specs.Answer.{Answer}
 use Rattle.emit.specs.State.{Res, State}
 use Rattle.compile.specs.Compile.{compile_of}

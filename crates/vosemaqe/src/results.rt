@@ -3,12 +3,12 @@ ghost use Rattle.std.specs.Prelude.{◌≡◌};
 ghost use Rattle.value.specs.Answer.{result_of};
 ghost use Rattle.vosemaqe.specs.Results.{dest_of, report_of, evaluated_of, operands_of, encoded_of};
 
+use compile::buffers::Compiled;
 use faults::Fault;
 use insns::Insn;
 use insns::op::Op;
-use value::Value;
-use compile::buffers::Compiled;
 use operands::of_op::{PlainOp, plain_op};
+use value::Value;
 
 // The cells of a compile.
 #[derive(Clone, Copy)]

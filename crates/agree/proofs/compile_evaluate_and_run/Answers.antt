@@ -4,7 +4,7 @@ use Rattle.claim.proofs.Entry.{front_fits, front-count, accepted-whole, refused-
 use Rattle.agree.proofs.compile_evaluate_and_run.Goals as goal
 
 pub returns-in-Ok : goal.returns-in-Ok
-returns-in-Ok c = search (accepted-whole, c.compile-compiled.ensures, c.in-Ok.is, c.evaluate_and_run-both.ensures)
+returns-in-Ok c = accepted-whole c.args.nodes.now _ _ _ _ _ _ c.are_wide.ensures c.are_wide-2.ensures c.compile-compiled.ensures c.in-Ok.is c.evaluate_and_run-both.ensures
 
 pub slice_bounds-evaluate_and_run-end : goal.slice_bounds-evaluate_and_run-end
 slice_bounds-evaluate_and_run-end c = search (front_fits, rules)

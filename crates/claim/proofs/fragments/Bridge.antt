@@ -15,7 +15,6 @@ use Rattle.faults.specs.Limits.{max_registers}
 use Rattle.insns.specs.declared.op.Op.{Op}
 use Rattle.insns.specs.declared.op.Three.{Three}
 use Rattle.insns.specs.Opcodes.{three_op}
-use Rattle.insns.specs.declared.op.Shift.{Shift}
 use Rattle.insns.specs.declared.op.Cmp.{Cmp as JumpCmp}
 use Rattle.insns.specs.declared.op.Imm40.{Imm40}
 use Rattle.insns.specs.declared.op.Imm16.{Imm16 as Small}
@@ -25,9 +24,7 @@ use Rattle.value.specs.Value.{Datum}
 use Rattle.value.specs.Value as Val
 use Rattle.table.specs.Tree.{Tree, leaf, unary, binary, ternary, Leaf, nil, yep, nope, int, float, ref, Unary, minus, not', Cmp, Binary, arith, cmp, and, or, RefBelow, RefsBelow}
 use Rattle.fold.specs.declared.Tail.{Tail}
-use Rattle.fold.specs.declared.Tail.TheVariants as Tail
 use Rattle.fold.specs.declared.How.{How}
-use Rattle.fold.specs.declared.How.TheVariants as How
 use Rattle.fold.specs.Literal.{fits_imm40, as_imm16}
 use Rattle.fold.specs.Fold.{minus_one, fold_of, tail_op, takes_shift}
 use Rattle.fold.specs.Opcodes.{three_of, mirror, branch_of}
@@ -42,7 +39,7 @@ use Rattle.claim.specs.Emitted.{is_emitted}
 use Rattle.claim.proofs.fragments.Frag.{DstLow, Vf, Bf, ValueF, BranchF, Frag, d_reg, d_next, d_need, const_op, mov_op, aimed, jmp_by, test_on, pair_on, imm_on, load_f, const_f, int_f, leaf_f, moved, into_f, binary_f, unary_test_f, binary_test_f, tail_f, operand_f, arith_f, compare_f, cond_f, tern_f, junc_f, junc_b, plain_f, condition_f, unary_n, binary_n, frag}
 use Rattle.claim.proofs.fragments.Fits.{word, words_of, Fits, AllFit, all_append, nil-fits, true-fits, false-fits, int-fits, const_fits, mov-fits, three-emitted, three-fits, TailFits, tail-fits, far, BranchFits, branch_fits}
 use Rattle.claim.proofs.fragments.Folds.{ImmFits, FoldFits, fold-fits, imm16-fits}
-use Rattle.claim.proofs.fragments.Needs.{Within, both, arms, pair, as_value, node, leaf_slots, needs, closed}
+use Rattle.claim.proofs.fragments.Needs.{Within, both, arms, pair, as_value, node, needs, closed}
 use Rattle.claim.proofs.fragments.Whole.{words-length}
 use Rattle.claim.proofs.fragments.Open.{Open, patched, leap-open, out-open, skip-code, skip-open, fix-test, fix-over}
 use Rattle.claim.proofs.fragments.Steps.{Met, met, refused, met-bind, met-eq, met-then, Lacking, st, state-eq, dest-met, slot-met, emit-met, put-met, jump-met, patch-met, patches-met}

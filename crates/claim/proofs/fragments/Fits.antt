@@ -25,7 +25,6 @@ use Rattle.table.specs.Tree as Tree
 use Rattle.decode.specs.Decode.{decode_of}
 use Rattle.decode.specs.declared.patch.Branch.{Branch}
 use Rattle.fold.specs.declared.Tail.{Tail}
-use Rattle.fold.specs.declared.Tail.TheVariants as Tail
 use Rattle.fold.specs.Literal.{fits_imm40}
 use Rattle.fold.specs.Fold.{tail_op}
 use Rattle.fold.specs.Opcodes.{three_of}

@@ -24,9 +24,7 @@ use Rattle.value.specs.Value.{Datum}
 use Rattle.value.specs.Value as Val
 use Rattle.table.specs.Tree.{Tree, leaf, unary, binary, ternary, Leaf, nil, yep, nope, int, float, ref, Unary, minus, not', Cmp, Binary, arith, cmp, and, or}
 use Rattle.fold.specs.declared.Tail.{Tail}
-use Rattle.fold.specs.declared.Tail.TheVariants as Tail
 use Rattle.fold.specs.declared.How.{How}
-use Rattle.fold.specs.declared.How.TheVariants as How
 use Rattle.fold.specs.Literal.{fits_imm40, as_imm16}
 use Rattle.fold.specs.Fold.{fold_of, minus_one, tail_op, takes_shift, Picked, one, two, compare_pick}
 use Rattle.fold.specs.Opcodes.{three_of, branch_of}

@@ -3,27 +3,25 @@
 use Rattle.faults.specs.declared.Fault.{Fault}
 use mathlib.Core.Path.{◌≡◌, refl, sym, ap, ◌∙◌}
 use mathlib.Core.Bool.{Bool, true, false, cond, ◌&&◌}
-use Prim.Native.Nat.{ℕ, zero, suc, ◌+◌, ◌-◌, ◌*◌, ◌/◌, ◌%◌, ◌^◌, ◌≤◌, ◌<◌}
+use Prim.Native.Nat.{ℕ, suc, ◌+◌, ◌-◌, ◌*◌, ◌/◌, ◌^◌, ◌≤◌, ◌<◌}
 use native.Mathlib.Omega.{arith}
 use native.Mathlib.Nat.{mul-div_right, div-eq_of_lt-le, pow-le-pow_right, mod-eq_of_lt, mul-suc}
-use lib.Dec.{leb, eqb}
 use lib.IntN.{ℤ, pos, negsuc, neg_ℤ}
 use lib.Signed.{lt_z}
 use lib.Pow.{pow-add, pow_pos}
 use mir.Syntax.{w64}
 use mir.Val.{to_z}
-use borrow.Author.Tests.{eqb-true, ne_eqb, lt-ltb, leb-true}
+use borrow.Author.Tests.{ne_eqb, lt-ltb}
 use Rattle.insns.specs.declared.op.Sense.TheVariants as Sense
 use Rattle.value.specs.Value.{Datum, nil, bool, int, float}
 use Rattle.value.specs.Answer.{Answer, is, fault, truth as yes, is_number}
-use Rattle.ops.specs.Compare.{mixed, compare_numbers, compare_others, compare_of, same}
+use Rattle.ops.specs.Compare.{compare_numbers, compare_others, compare_of, same}
 use Rattle.ops.specs.Not.{not_of, negate}
 use Rattle.ops.specs.Ops.{eq_of, ne_of, binary_of}
 use Rattle.ops.proofs.Comparing.{ne-is}
 use Rattle.int64.specs.Mask.{mask_of}
 use Rattle.int64.specs.Order.{order_z, is_equal}
 use Rattle.int64.specs.Order as Order
-use Rattle.int64.specs.declared.order.Cmp.TheVariants.{Eq, Ne}
 use Rattle.effect.specs.Effect as M
 use Rattle.effect.specs.Forms as Forms
 use Rattle.table.specs.Tree.{Arith, bit_and, bit_or, bit_xor, lshift, rshift, add, sub, mul, div, mod', Cmp, eq, ne, lt, le, gt, ge}

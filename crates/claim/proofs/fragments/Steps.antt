@@ -12,7 +12,6 @@ use borrow.Author.Tests.{ltb-true, ltb-false, leb-true, leb-false}
 use Rattle.faults.specs.Limits.{max_registers}
 use Rattle.faults.specs.Numbers.{no_register, no_slot, no_room}
 use Rattle.insns.specs.declared.op.Op.{Op}
-use Rattle.insns.specs.Insns.{made_of}
 use Rattle.decode.specs.Patch.{Patching, patch_of, patch_all}
 use Rattle.value.specs.Value.{Datum}
 use Rattle.emit.specs.State.{Res, done, fail, bind, State, alloc_d, dest_d, seek, fresh, slot_d, store_d, emit_d}

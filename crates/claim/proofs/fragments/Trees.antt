@@ -10,7 +10,6 @@ use native.Mathlib.Omega.{arith as linear}
 use lib.IntN.{ℤ, pos, negsuc}
 use lib.Dec.{ltb}
 use Rattle.insns.specs.declared.op.Op.{Op}
-use Rattle.insns.specs.declared.op.Three.{Three}
 use Rattle.insns.specs.declared.op.Imm16.{Imm16 as Small}
 use Rattle.insns.specs.declared.op.Imm40.{Imm40}
 use Rattle.insns.specs.declared.op.Sense.TheVariants as Sense
@@ -30,7 +29,6 @@ use Rattle.eval.specs.Eval as E
 use Rattle.eval.specs.Apply as Apply
 use Rattle.eval.specs.Eval.{eval_of, leaf_of}
 use Rattle.fold.specs.declared.Tail.{Tail}
-use Rattle.fold.specs.declared.Tail.TheVariants as Tail
 use Rattle.fold.specs.Literal.{fits16, fits_imm40, is_fixnum, lit_of, fixnum, const_of, imm_of, imm_lit, as_imm16, amount_of, amount_lit}
 use Rattle.fold.specs.Fold.{minus_one, shift_by, shifted_by, fold_of, tail_op, takes_shift}
 use Rattle.fold.proofs.Folding.{Folding, general, mask, shift-mask, shift-left, shift-right, plus, minus as less, times, folding}

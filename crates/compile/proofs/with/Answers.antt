@@ -1,5 +1,4 @@
 -- `with`: its list does not run out.
-use Rattle.std.proofs.Common.{◌≡◌, length, replicate}
 use lib.ListN.{length-replicate}
 use Rattle.compile.proofs.Entries.{enough-places}
 use Rattle.compile.proofs.with.Goals as goal

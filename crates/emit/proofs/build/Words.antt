@@ -1,31 +1,19 @@
 -- A branch whose displacement is 0 has the word of its other operands: the field above them adds nothing.
 use Rattle.std.specs.Prelude.{Option}
 use Rattle.insns.specs.declared.Insn.{Insn}
-use mathlib.Core.Path.{◌≡◌, ap, ◌∙◌}
+use mathlib.Core.Path.{◌≡◌}
 use mathlib.Core.Bool.{Bool, true, false}
 use mathlib.Core.List.{[], ◌∷◌}
 use Prim.Native.Nat.{ℕ}
-use lib.IntN.{ℤ}
-use mir.Syntax.{w16, w64}
-use mir.Val.{SFits, to_z, of_z}
-use Rattle.insns.proofs.bits.Sign.{widens, widened}
-use Rattle.insns.specs.Fields.{make, u, raw_bits}
+use Rattle.insns.specs.Fields.{make, u}
 use Rattle.insns.specs.Bits.{twos}
 use Rattle.insns.specs.Insns.{made_of}
-use Rattle.insns.specs.Opcodes.{arith_op, jump_op, jump_imm_op}
-use Rattle.insns.specs.declared.op.Arith.{Arith}
+use Rattle.insns.specs.Opcodes.{jump_op, jump_imm_op}
 use Rattle.insns.specs.declared.op.Cmp.{Cmp}
 use Rattle.insns.specs.declared.op.Imm16.{Imm16}
-use Rattle.insns.specs.declared.op.Imm40.{Imm40}
 use Rattle.insns.specs.declared.op.Op.{Op}
 use Rattle.emit.specs.Jump.{to_patch, sense_of}
 use Rattle.emit.specs.Read.{literal_bits}
-
-pub load-made : (dst : ℕ) (imm : Imm40) {n : ℕ} {r : Option Insn} → n ≡ raw_bits imm.raw → r ≡ make 3 (u 16 dst ∷ (1099511627776, n) ∷ []) → r ≡ made_of (Op.LoadImm40 dst imm)
-load-made dst imm e h = rw e at h
-
-pub arith-made : (k : Arith) (dst a : ℕ) (imm : Imm16) {op n : ℕ} {r : Option Insn} → op ≡ arith_op k → n ≡ literal_bits imm → r ≡ make op (u 16 dst ∷ u 16 a ∷ (65536, n) ∷ []) → r ≡ made_of (Op.Arith k dst a imm)
-arith-made k dst a imm o e h = rw (o, e) at h
 
 pub test-yes : {sense : Bool} (val : ℕ) {r : Option Insn} → sense ≡ true → r ≡ make 43 (u 16 val ∷ []) → r ≡ made_of (Op.If (sense_of sense) val to_patch)
 unfolding twos
@@ -47,8 +35,4 @@ pub jmp-made : {r : Option Insn} → r ≡ make 65 [] → r ≡ made_of (Op.Jmp 
 unfolding twos
 jmp-made h = h
 
--- a literal is widened before its bits are taken
-pub literal : (z : ℤ) {n : ℕ} → SFits w16 z → n ≡ twos 32768 (to_z w64 (of_z w64 (to_z w16 (of_z w16 z)))) → n ≡ twos 32768 z
-literal z fits h = h ∙ ap (twos 32768) (widened tt fits)
-
-pub ruleset words = (load-made, arith-made, test-yes, test-no, jump-made, jump-imm-made, jmp-made, literal, widens)
+pub ruleset words = (test-yes, test-no, jump-made, jump-imm-made, jmp-made)

@@ -157,8 +157,6 @@ module _ {c c1 : List ℕ} {st : St} {x : Result (ℕ × St) Fault} (js : List �
 pub ruleset chains = (counted-got, came, turn-go, true-go, bool-go)
 
 -- ---- the list of jumps: both sides of And or Or
-pub join-stop : (c js js' : List ℕ) (same : Bool) (n : ℕ) {y r : Result (ℕ × St) Fault} {f : Fault} → y ≡ Err f → r ≡ Err f → Joined c c js js' same n y r
-join-stop c js js' same n e q ks ps fit = record { is = rw (e, q); fit = rw q tt }
 
 module _ {c js : List ℕ} {n m : ℕ} {y : Result (ℕ × St) Fault} {s : St} (ready : Joinable c js n y) (e : y ≡ Ok (m, s)) where
   pub join-room : n + m ≤ length js
@@ -169,9 +167,6 @@ module _ {c js : List ℕ} {n m : ℕ} {y : Result (ℕ × St) Fault} {s : St} (
   join-same g ks ps fit =
       let f = rw e at fit in
       record { is = rw (e, g, take-add n m js); fit = (f.0, join-room) }
-
-  pub join-ready : s.count ≤ length c
-  join-ready = let r = rw e at ready.right in r.1
 
   module _ {c' : List ℕ} {z : Result (ℕ × St) Fault} {same : Bool} (no : same ≡ false) (h : Steps c c' s z (patches_d (take n js) 0)) where
     pub join-refused : {f : Fault} {r : Result (ℕ × St) Fault} → z ≡ Err f → r ≡ Err f → Joined c c' js js same n y r
@@ -187,5 +182,3 @@ module _ {c js : List ℕ} {n m : ℕ} {y : Result (ℕ × St) Fault} {s : St} (
         let w = h ks ps f.0 in
         let r = join-room in
         record { is = rw (e, no, moved) (go (λ w. done (take m (drop n js), w.1)) q w); fit = (kept q w, omega arith) }
-
-pub ruleset joins = (length-take-le, join-stop, join-same, join-ready, join-room, join-refused, join-moved)

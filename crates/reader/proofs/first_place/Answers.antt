@@ -1,6 +1,6 @@
--- `first_place` meets its contract: the fields of the table are the words.
-use Rattle.reader.proofs.Lines.{first-names}
+-- The fields of the table are the words.
+use Rattle.reader.proofs.Lines.{first_names}
 use Rattle.reader.proofs.first_place.Goals as goal
 
 pub returns : goal.returns
-returns c = first-names _ c.place_of.ensures
+returns c = first_names _ c.place_of.ensures

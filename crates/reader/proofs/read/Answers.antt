@@ -1,15 +1,9 @@
--- `read` meets its contract: each return is a law of what the line's fields say.
-use Rattle.reader.proofs.Lines.{lines}
+-- What stands before the comment is read.
+use Rattle.std.proofs.Common.{◌∙◌}
+use Rattle.reader.specs.Line.{line_of}
+use Rattle.reader.proofs.Lines.{before-comment}
 use Rattle.reader.proofs.read.Goals as goal
 
-pub find-e-requires : goal.find-e-requires
-find-e-requires c = search lines
-
-pub slice_bounds-read_bare-end : goal.slice_bounds-read_bare-end
-slice_bounds-read_bare-end c = search lines
-
-pub read_bare-requires : goal.read_bare-requires
-read_bare-requires c = search lines
-
 pub returns : goal.returns
-returns c = search lines
+unfolding line_of
+returns c = c.read_bare.ensures ∙ rw (before-comment c.args.s.now c.find-e.ensures.value)

@@ -1,6 +1,6 @@
--- `value_place` meets its contract: the fields of the table are the words.
-use Rattle.reader.proofs.Lines.{value-names}
+-- The fields of the table are the words.
+use Rattle.reader.proofs.Lines.{value_names}
 use Rattle.reader.proofs.value_place.Goals as goal
 
 pub returns : goal.returns
-returns c = value-names _ _ c.nth-w.ensures.s_value c.place_of.ensures
+returns c = value_names _ _ c.nth.ensures c.place_of.ensures

@@ -1,5 +1,5 @@
 -- `records::check_nodes` meets its contract: the records are flattened, and what their words answer is theirs.
-use Rattle.std.proofs.Common.{rules, ◌≡◌, ◌*◌, ◌/◌, ◌≤◌, ℕ, length, refl, ap, ◌∙◌, arith}
+use Rattle.std.proofs.Common.{rules, ◌/◌, ◌≤◌, length, ◌∙◌}
 use Rattle.records.proofs.Laws.{has_room, handed}
 use Rattle.records.proofs.Fills.{prefix, check-is, check-refused}
 use Rattle.records.proofs.check_nodes.Goals as goal

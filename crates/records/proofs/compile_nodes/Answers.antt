@@ -1,7 +1,5 @@
 -- `records::compile_nodes` meets its contract: the records are flattened, and what their words compile to is theirs.
-use Rattle.std.proofs.Common.{rules, ◌≡◌, ◌*◌, ◌/◌, ◌≤◌, ℕ, length, subst, arith}
-use Rattle.emit.specs.State.{Res, State}
-use Rattle.compile.specs.Buffers.{Compiles}
+use Rattle.std.proofs.Common.{rules, ◌/◌, ◌≤◌, length}
 use Rattle.compile.proofs.Entries.{compiles-by}
 use Rattle.records.proofs.Laws.{has_room}
 use Rattle.records.proofs.Fills.{prefix, compile-is, compile-refused}

@@ -1,5 +1,5 @@
 -- `records::evaluate_nodes` meets its contract: the records are flattened, and what their words answer is theirs.
-use Rattle.std.proofs.Common.{rules, ◌≡◌, ◌*◌, ◌/◌, ◌≤◌, ℕ, length, ap, ◌∙◌, arith}
+use Rattle.std.proofs.Common.{rules, ◌/◌, ◌≤◌, length, ap, ◌∙◌}
 use Rattle.value.specs.Answer.{result_of}
 use Rattle.records.proofs.Laws.{has_room, handed}
 use Rattle.records.proofs.Fills.{prefix, evaluate-is, evaluate-refused}

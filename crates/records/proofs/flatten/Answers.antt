@@ -1,5 +1,5 @@
 -- `records::flatten` meets its contract: where there is room, each record is put, one by one.
-use Rattle.std.proofs.Common.{rules, ◌≡◌, ◌+◌, ◌*◌, ◌/◌, ◌≤◌, ℕ, length, refl, ◌∙◌, arith}
+use Rattle.std.proofs.Common.{rules, ◌≡◌, ◌+◌, ◌*◌, ◌/◌, ◌≤◌, length, refl, ◌∙◌, arith}
 use Rattle.std.proofs.Math.Seq.{take-length}
 use Rattle.records.specs.Records.{flat}
 use Rattle.records.proofs.Laws.{has_room}

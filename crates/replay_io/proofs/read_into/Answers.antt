@@ -1,9 +1,10 @@
--- One more number is taken, and written to its place where it has one.
-use Rattle.std.proofs.Common.{◌≡◌, ℕ, ◌+◌, ◌*◌, ◌≤◌, ◌<◌, List, Option, Some, None, IfSome, length, drop, set, min, slice_index, inl, inr, sym, ap, ◌∙◌, arith}
+-- One more number is taken, and what it makes is written to its place where it has one.
+use Rattle.std.proofs.Common.{◌≡◌, ℕ, ◌+◌, ◌*◌, ◌^◌, ◌≤◌, ◌<◌, List, Option, Some, None, IfSome, length, drop, set, slice_index_or, inl, inr, ap, ◌∙◌, arith, rules}
 use Rattle.std.proofs.lemmas.List.{get_or-set_same, get_or-set_other, length-set, drop-drop}
 use Rattle.std.proofs.Math.Nat.{eq-or-lt_of_le}
 use Rattle.std.specs.Int.{from_le_bytes, w64}
-use Rattle.replay_io.specs.Numbers.{nth_number, DropsNumbers}
+use Rattle.replay_io.specs.Numbers.{nth_number, DropsNumbers, MadeOf}
+use Rattle.replay_io.proofs.Made.{fewer_made}
 use Rattle.replay_io.proofs.read_into.Goals as goal
 
 one_more : (a b c : Option (List ℕ)) (i : ℕ) → DropsNumbers a b i → DropsNumbers b c 1 → DropsNumbers a c (i + 1)
@@ -20,35 +21,40 @@ number_there None b i w p q = tt
 number_there (Some x) None i w p q = absurd p
 number_there (Some x) (Some y) i w p q = q ∙ ap (λ s. from_le_bytes w64 s) p
 
-byte_there : (a : Option (List ℕ)) (i w v : ℕ) → IfSome a (λ xs. w ≡ nth_number xs i) → v ≡ min w 255 → IfSome a (λ xs. v ≡ min (nth_number xs i) 255)
-byte_there None i w v p q = tt
-byte_there (Some x) i w v p q = q ∙ ap (λ n. min n 255) p
+made_there : {T : Type 0} (makes : ℕ → T → Type 0) (a : Option (List ℕ)) (i w : ℕ) (v : T) → w < 2 ^ 64 → IfSome a (λ xs. w ≡ nth_number xs i) → makes w v → IfSome a (λ xs. MadeOf makes xs i v)
+unfolding MadeOf
+made_there makes None i w v l p q = tt
+made_there makes (Some x) i w v l p q = (w, l, p, q)
 
--- f x k is what belongs at place k
-one_kept : (a : Option (List ℕ)) (f : List ℕ → ℕ → ℕ) (old new : List ℕ) (i v : ℕ) → new ≡ set old i v → IfSome a (λ xs. (k : ℕ) → k < i → k < length old → slice_index old k ≡ f xs k)
-    → IfSome a (λ xs. v ≡ f xs i) → IfSome a (λ xs. (k : ℕ) → k < i + 1 → k < length new → slice_index new k ≡ f xs k)
-one_kept None f old new i v e p q = tt
-one_kept (Some x) f old new i v e p q = λ k h l.
+-- P x k y is that y belongs at place k
+one_kept : {T : Type 0} (P : List ℕ → ℕ → T → Type 0) (a : Option (List ℕ)) (old new : List T) (i : ℕ) (v : T) → new ≡ set old i v → IfSome a (λ xs. (k : ℕ) (d : T) → k < i → k < length old → P xs k (slice_index_or old k d))
+    → IfSome a (λ xs. P xs i v) → IfSome a (λ xs. (k : ℕ) (d : T) → k < i + 1 → k < length new → P xs k (slice_index_or new k d))
+one_kept P None old new i v e p q = tt
+one_kept P (Some x) old new i v e p q = λ k d h l.
     let len : length new ≡ length old = ap length e ∙ length-set old i v in
-    let here : slice_index new k ≡ slice_index (set old i v) k = ap (λ s. slice_index s k) e in
     let most : k ≤ i = omega arith in
     elim (eq-or-lt_of_le most) [
-      | inl s ↦ here ∙ ap (λ n. slice_index (set old i v) n) s ∙ get_or-set_same old i v 0 (omega arith) ∙ q ∙ ap (f x) (sym s)
-      | inr u ↦ here ∙ get_or-set_other old i k v 0 (omega arith) ∙ p k u (omega arith)
+      | inl s ↦ let here : i < length old = omega arith in rw (e, s, get_or-set_same old i v d here) q
+      | inr u ↦ let there : k < length old = omega arith in rw (e, get_or-set_other old i k v d (λ z. omega arith)) (p k d u there)
     ]
 
-others_kept : (first old new : List ℕ) (i v : ℕ) → new ≡ set old i v → ((k : ℕ) → i ≤ k → slice_index old k ≡ slice_index first k) → (k : ℕ) → i + 1 ≤ k → slice_index new k ≡ slice_index first k
-others_kept first old new i v e p k h = ap (λ s. slice_index s k) e ∙ get_or-set_other old i k v 0 (omega arith) ∙ p k (omega arith)
+others_kept : {T : Type 0} (first old new : List T) (i : ℕ) (v : T) → new ≡ set old i v → ((k : ℕ) (d : T) → i ≤ k → slice_index_or old k d ≡ slice_index_or first k d)
+    → (k : ℕ) (d : T) → i + 1 ≤ k → slice_index_or new k d ≡ slice_index_or first k d
+others_kept first old new i v e p k d h = ap (λ s. slice_index_or s k d) e ∙ get_or-set_other old i k v d (λ z. omega arith) ∙ p k d (omega arith)
 
 pub loop-i-preserved : goal.loop-i-preserved
 loop-i-preserved g c =
     let was = c.loop-i.invariant in
+    let makes = λ (w : ℕ) (x : g.row.T.Denot). g.F.Fn.post c.args.element.now (w, tt) x in
     let read = c.in_ok-w.ensures in
     let there = number_there _ _ c.loop-i.i c.in_ok-w.w was.rest read.value in
     record {
       rest = one_more _ _ _ _ was.rest read.rest;
-      words = one_kept _ nth_number _ _ _ _ c.keep_word.ensures was.words there;
-      bytes = one_kept _ (λ xs k. min (nth_number xs k) 255) _ _ _ _ c.keep_byte.ensures was.bytes (byte_there _ _ _ _ there c.byte_of.ensures);
-      words_kept = others_kept _ _ _ _ _ c.keep_word.ensures was.words_kept;
-      bytes_kept = others_kept _ _ _ _ _ c.keep_byte.ensures was.bytes_kept;
+      values = one_kept (MadeOf makes) _ _ _ _ _ c.keep.ensures was.values (made_there makes _ c.loop-i.i c.in_ok-w.w c.element.result (search rules) there c.element.ensures);
+      kept = others_kept _ _ _ _ _ c.keep.ensures was.kept;
     }
+
+pub returns-clause-values : goal.returns-clause-values
+returns-clause-values g c =
+    let makes = λ (w : ℕ) (x : g.row.T.Denot). g.F.Fn.post c.args.element.now (w, tt) x in
+    fewer_made (MadeOf makes) _ _ c.loop-i.i c.args.n (omega arith) c.loop-i.invariant.values

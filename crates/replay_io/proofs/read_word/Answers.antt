@@ -58,7 +58,7 @@ rest_read (Some x) (Some y) b n l h p e = dropped (take n b) y n (length-take-le
 pub returns-clause-value : goal.returns-clause-value
 returns-clause-value g c =
     number_read _ _ c.read_full.new.bytes c.fill.new.self _ c.in_ok-n.n _ (search rules) (search rules) c.in_ok-n.ensures.bytes (λ h. c.in_ok-n.ensures.end (search rules))
-    (c.fill.ensures.after (λ y same. same) ∙ ap (λ k. replicate k 0) (search (rules, overwrites))) c.word_of.ensures
+    (c.fill.ensures.after (λ y same. same) ∙ ap (λ k. replicate k 0) (search (rules, overwrites))) c.from_le_bytes.ensures
 
 pub returns-clause-rest : goal.returns-clause-rest
 returns-clause-rest g c =

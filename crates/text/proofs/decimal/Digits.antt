@@ -4,27 +4,17 @@ use mathlib.Core.Bool.{Bool, true, false, ◌&&◌}
 use mathlib.Core.List.{List, [], ◌∷◌}
 use Prim.Native.Nat.{ℕ, zero, suc, ◌+◌, ◌-◌, ◌*◌, ◌/◌, ◌%◌, ◌^◌, ◌≤◌, ◌<◌}
 use native.Mathlib.Nat.{add-mul, mul_assoc, mul_right_comm, mul-le-mul_right, one-mul, one-le-pow, pow-suc, zero-mul}
-use native.Mathlib.Numerals.{add-one}
 use native.Mathlib.Omega.{arith}
 use lib.Dec.{leb, ltb, eqb}
-use lib.ListN.{length, get_or, drop, set, length-drop, length-set, drop_of_length-le}
+use lib.ListN.{length, get_or, drop, set, length-drop, length-set}
 use lib.Seq.{drop-cons, drop-length, drop-set-lt, get_or-set_same, get_or-set_other, lt-length-set}
 use borrow.Author.Rules.{rules}
-use borrow.Author.Tests.{lt-ltb, le-leb, lt-leb, ne_eqb, leb-true, ltb-true}
+use native.Mathlib.Decide.{dec_lt}
+use Rattle.std.specs.Char.{is_ascii_digit}
+use Rattle.std.specs.List.{list_all}
+use borrow.Author.Tests.{lt-ltb, le-ltb, le-leb, lt-leb, ne_eqb, leb-true, ltb-true}
 use Rattle.text.specs.Decimal.{is_digit, all_digits, value_of}
 use Rattle.text.specs.Doubling.{Doubled}
-
--- ---- one byte
-
-pub digit_low : (b : ℕ) → b < 48 → false ≡ is_digit b
-unfolding is_digit
-digit_low b h = rw (lt-leb 48 b h)
-
-pub digit-test : (b : ℕ) → 48 ≤ b → ltb b 58 ≡ is_digit b
-unfolding is_digit
-digit-test b h = rw (le-leb 48 b h)
-
-pub ruleset bytes = (digit_low, digit-test, rules)
 
 both : (t u : Bool) → (t && u) ≡ true → (t ≡ true) × (u ≡ true)
 both true u h = (refl, h)
@@ -36,35 +26,20 @@ digit-is b h = let k = both (leb 48 b) (ltb b 58) h in (leb-true 48 b k.0, ltb-t
 
 -- ---- every byte
 
--- `rest` is what is left to look at
-module _ (s : List ℕ) (i : ℕ) {q : Bool} (inv : all_digits (drop i s) ≡ q) where
-  pub all_done : length s ≤ i → true ≡ q
-  unfolding all_digits
-  all_done h = rw (drop_of_length-le s h) at inv
+ascii-is : (b : ℕ) → is_ascii_digit b ≡ is_digit b
+unfolding is_digit
+ascii-is b = elim (dec_lt b 58) [ yes h ↦ rw (le-leb b 57 (omega arith), lt-ltb b 58 h) refl | no h ↦ rw (lt-leb b 57 (omega arith), le-ltb b 58 (omega arith)) refl ]
 
-  module _ {t : Bool} (h : i < length s) (e : t ≡ is_digit (get_or s i 0)) where
-    pub all-not : t ≡ false → false ≡ q
-    unfolding all_digits
-    all-not k = rw (drop-cons s i 0 h, ← e, k) at inv
-
-    pub all_more : t ≡ true → all_digits (drop (i + 1) s) ≡ q
-    unfolding all_digits
-    all_more k = rw (add-one i) (rw (drop-cons s i 0 h, ← e, k) at inv)
-
-pub ruleset alls = (all_done, all-not, all_more, rules)
+pub all-is : (s : List ℕ) → list_all is_ascii_digit s ≡ all_digits s
+unfolding all_digits
+all-is [] = refl
+all-is (b ∷ s) = rw (ascii-is b, all-is s) refl
 
 digit_at : (s : List ℕ) (i : ℕ) → all_digits s ≡ true → i < length s → (48 ≤ get_or s i 0) × (get_or s i 0 < 58)
 unfolding all_digits
 digit_at [] i a h = absurd (omega arith)
 digit_at (b ∷ s) zero a h = digit-is b (both (is_digit b) (all_digits s) a).0
 digit_at (b ∷ s) (suc i) a h = digit_at s i (both (is_digit b) (all_digits s) a).1 (omega arith)
-
-digits-after : (s : List ℕ) (i : ℕ) → all_digits s ≡ true → all_digits (drop i s) ≡ true
-unfolding all_digits
-digits-after [] zero a = refl
-digits-after [] (suc i) a = refl
-digits-after (b ∷ s) zero a = a
-digits-after (b ∷ s) (suc i) a = digits-after s i (both (is_digit b) (all_digits s) a).1
 
 pub value-below : (s : List ℕ) → all_digits s ≡ true → value_of s < 10 ^ length s
 unfolding all_digits value_of
@@ -75,29 +50,23 @@ value-below (b ∷ s) a =
     let l : (b - 48) * 10 ^ length s ≤ 9 * 10 ^ length s = mul-le-mul_right (10 ^ length s) (omega arith) in
     rw (pow-suc 10 (length s)) (omega (arith, value-below s k.1))
 
--- ---- whether all are zero: what is left to look at has the value of all
+-- ---- whether all are zero
 
-module _ (s : List ℕ) (i v : ℕ) (inv : value_of (drop i s) ≡ v) where
-  pub zero-done : length s ≤ i → true ≡ eqb v 0
-  unfolding value_of
-  zero-done h = rw (drop_of_length-le s h) at (ap (λ (x : ℕ). eqb x 0) inv)
-
-  module _ (h : i < length s) where
-    first : (get_or s i 0 - 48) * 10 ^ length (drop (suc i) s) + value_of (drop (suc i) s) ≡ v
-    unfolding value_of
-    first = rw (drop-cons s i 0 h) at inv
-
-    pub zero_more : get_or s i 0 ≡ 48 → value_of (drop (i + 1) s) ≡ v
-    zero_more e = rw (add-one i) (let z : 0 * 10 ^ length (drop (suc i) s) + value_of (drop (suc i) s) ≡ v = rw e at first in omega (arith, zero-mul (10 ^ length (drop (suc i) s))))
-
-    pub zero-not : all_digits s ≡ true → (get_or s i 0 ≡ 48 → ⊥) → false ≡ eqb v 0
-    zero-not a e =
-        let k = digit_at s i a h in
-        let l : 1 * 10 ^ length (drop (suc i) s) ≤ (get_or s i 0 - 48) * 10 ^ length (drop (suc i) s) = mul-le-mul_right (10 ^ length (drop (suc i) s)) (omega arith) in
-        let p : 1 ≤ 10 ^ length (drop (suc i) s) = one-le-pow (length (drop (suc i) s)) 10 (omega arith) in
-        sym (ne_eqb v 0 (λ z. omega (arith, first, one-mul (10 ^ length (drop (suc i) s)))))
-
-pub ruleset zeros = (zero-done, zero_more, zero-not, rules)
+pub zero-is : (s : List ℕ) → all_digits s ≡ true → list_all (λ d. eqb d 48) s ≡ eqb (value_of s) 0
+unfolding all_digits value_of
+zero-is [] a = refl
+zero-is (b ∷ s) a =
+    let k = both (is_digit b) (all_digits s) a in
+    elim (dec_lt 48 b) [
+      | yes h ↦
+          let l : 1 * 10 ^ length s ≤ (b - 48) * 10 ^ length s = mul-le-mul_right (10 ^ length s) (omega arith) in
+          let p : 1 ≤ 10 ^ length s = one-le-pow (length s) 10 (omega arith) in
+          rw (ne_eqb b 48 (λ z. omega arith)) (sym (ne_eqb ((b - 48) * 10 ^ length s + value_of s) 0 (λ z. omega (arith, one-mul (10 ^ length s)))))
+      | no h ↦
+          let z : b ≡ 48 = omega (arith, digit-is b k.0) in
+          let q : value_of s ≡ 0 * 10 ^ length s + value_of s = omega (arith, zero-mul (10 ^ length s)) in
+          rw z (zero-is s k.1 ∙ ap (λ (x : ℕ). eqb x 0) q)
+    ]
 
 -- ---- doubling
 

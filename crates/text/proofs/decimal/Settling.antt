@@ -1,6 +1,7 @@
 -- A decimal beside the floats: between which two patterns it lies, and what that settles.
 use mathlib.Core.Path.{◌≡◌, refl, sym, ◌∙◌, ap}
 use mathlib.Core.Bool.{Bool, true, false, cond}
+use Rattle.std.proofs.Common.{Ok, Err}
 use Prim.Native.Nat.{ℕ, suc, ◌+◌, ◌-◌, ◌*◌, ◌/◌, ◌%◌, ◌^◌, ◌≤◌, ◌<◌}
 use native.Mathlib.Nat.{add-mul, mul_assoc, mul_right_comm, mul-le-mul_right, mul-lt-mul_of_pos_right, one-mul, mul-one, one-le-pow, pow-suc, eq-zero-or-pos}
 use native.Mathlib.Decide.{dec_lt}
@@ -14,7 +15,7 @@ use Rattle.float.specs.Bits.{units, infinity}
 use Rattle.float.specs.Float.{rounded, with_sign_bit, Nearest}
 use Rattle.float.proofs.Nearest.{rounded-nearest, nearest-unique, units_mono, units-strict}
 use Rattle.text.specs.Decimal.{settled, decimal_of}
-use Rattle.text.specs.declared.decimal.Real.TheVariants.{Is, Between}
+use Rattle.text.specs.declared.decimal.DecimalError.TheVariants.{Between}
 
 -- ---- the float of a number of steps between two patterns
 
@@ -44,29 +45,29 @@ module _ (num den q : ℕ) (some : 0 < den) (small : q < infinity) (above : unit
         let r = rounded num den in
         omega (arith, (rounded-nearest num den some).above_lower (omega arith), add-mul (units (r - 1)) (units r) den, mul-le-mul_right den (units_mono (q + 1) (r - 1) (omega arith)), mul-le-mul_right den (units_mono (q + 1) r (omega arith)))
 
-    lower : (neg : Bool) → Between (with_sign_bit neg q) ≡ settled neg num den q
+    lower : (neg : Bool) → Err (Between (with_sign_bit neg q)) ≡ settled neg num den q
     unfolding settled
     lower neg = rw (ne_eqb (units q * den) num (λ e. omega arith), le-ltb num (units q * den) above)
 
-    upper : (neg : Bool) → Between (with_sign_bit neg q) ≡ settled neg num den (q + 1)
+    upper : (neg : Bool) → Err (Between (with_sign_bit neg q)) ≡ settled neg num den (q + 1)
     unfolding settled
     upper neg =
         let e : q + 1 - 1 ≡ q = omega arith in
         rw (ne_eqb (units (q + 1) * den) num (λ e. omega arith), lt-ltb num (units (q + 1) * den) below, e)
 
-    settles-between : (neg : Bool) → Between (with_sign_bit neg q) ≡ settled neg num den (rounded num den)
+    settles-between : (neg : Bool) → Err (Between (with_sign_bit neg q)) ≡ settled neg num den (rounded num den)
     settles-between neg =
         elim (dec_lt q (rounded num den)) [
           | yes h ↦ let e : q + 1 ≡ rounded num den = omega (arith, not-above) in upper neg ∙ ap (settled neg num den) e
           | no h ↦ let e : q ≡ rounded num den = omega (arith, not-below) in lower neg ∙ ap (settled neg num den) e
         ]
 
-  settles-is : (neg : Bool) → units q * den ≡ num → Is (with_sign_bit neg q) ≡ settled neg num den (rounded num den)
+  settles-is : (neg : Bool) → units q * den ≡ num → Ok (with_sign_bit neg q) ≡ settled neg num den (rounded num den)
   unfolding settled
   settles-is neg e = rw (nearest-is e, eq-eqb (units q * den) num e)
 
   -- `exact` says whether the two are equal
-  settles : (neg exact : Bool) → exact ≡ eqb (units q * den) num → cond exact (Is (with_sign_bit neg q)) (Between (with_sign_bit neg q)) ≡ settled neg num den (rounded num den)
+  settles : (neg exact : Bool) → exact ≡ eqb (units q * den) num → cond exact (Ok (with_sign_bit neg q)) (Err (Between (with_sign_bit neg q))) ≡ settled neg num den (rounded num den)
   settles neg true h = settles-is neg (eqb-true (units q * den) num (sym h))
   settles neg false h = let n = eqb-false (units q * den) num (sym h) in settles-between (omega (arith, n)) neg
 
@@ -114,7 +115,7 @@ module _ (k q n u a b num : ℕ) (pos : 0 < u) (is : num ≡ n * u) (lo : units 
             eq-eqb (a * 10 ^ k) n e ∙ sym (eq-eqb (units q * 10 ^ k) num (scaled-lo ∙ ap (λ (x : ℕ). x * u) e ∙ sym is))
       ]
 
-  pub lies : (neg exact : Bool) → exact ≡ eqb (a * 10 ^ k) n → cond exact (Is (with_sign_bit neg q)) (Between (with_sign_bit neg q)) ≡ settled neg num (10 ^ k) (rounded num (10 ^ k))
+  pub lies : (neg exact : Bool) → exact ≡ eqb (a * 10 ^ k) n → cond exact (Ok (with_sign_bit neg q)) (Err (Between (with_sign_bit neg q))) ≡ settled neg num (10 ^ k) (rounded num (10 ^ k))
   lies neg exact h =
       let l : a * 10 ^ k * u ≤ n * u = mul-le-mul_right u from in
       let g : n * u < b * 10 ^ k * u = mul-lt-mul_of_pos_right to pos in
@@ -138,7 +139,7 @@ zero_test : (a v : ℕ) → eqb v 0 ≡ eqb a (a + v)
 zero_test a v = elim (dec_lt 0 v) [ yes h ↦ ne_eqb v 0 (λ e. omega arith) ∙ sym (ne_eqb a (a + v) (λ e. omega arith)) | no h ↦ eq-eqb v 0 (omega arith) ∙ sym (eq-eqb a (a + v) (omega arith)) ]
 
 module _ (neg : Bool) (k n m e v : ℕ) (inv : (m * 10 ^ k + v) * 2 ^ e ≡ n * 2 ^ 1074) (high : m < 2 ^ 53) (few : e ≤ 1074) (low : 0 < e → 2 ^ 52 ≤ m) (less : v < 10 ^ k) where
-  pub narrow-done : (exact : Bool) → exact ≡ eqb v 0 → cond exact (Is (with_sign_bit neg (e * 2 ^ 52 + m))) (Between (with_sign_bit neg (e * 2 ^ 52 + m))) ≡ decimal_of neg n k
+  pub narrow-done : (exact : Bool) → exact ≡ eqb v 0 → cond exact (Ok (with_sign_bit neg (e * 2 ^ 52 + m))) (Err (Between (with_sign_bit neg (e * 2 ^ 52 + m)))) ≡ decimal_of neg n k
   unfolding decimal_of
   narrow-done exact h =
       let next : e * 2 ^ 52 + m + 1 ≡ e * 2 ^ 52 + (m + 1) = omega arith in
@@ -184,7 +185,7 @@ module _ {whole m p e : ℕ} (inv : Halving whole m p e) (fits : whole < 2 ^ 64)
         let z : e ≡ e - 1074 + 1074 = omega (arith, inv.past) in
         ap (λ (y : ℕ). x * 2 ^ y) z ∙ ap (λ (y : ℕ). x * y) (pow-add 2 (e - 1074) 1074 ∙ ap (λ (y : ℕ). y * 2 ^ 1074) (sym inv.worth)) ∙ sym (mul_assoc x p (2 ^ 1074))
 
-    done : (exact : Bool) → exact ≡ eqb (m * p * 10 ^ k) (whole * 10 ^ k + v) → cond exact (Is (with_sign_bit neg (e * 2 ^ 52 + m))) (Between (with_sign_bit neg (e * 2 ^ 52 + m))) ≡ decimal_of neg (whole * 10 ^ k + v) k
+    done : (exact : Bool) → exact ≡ eqb (m * p * 10 ^ k) (whole * 10 ^ k + v) → cond exact (Ok (with_sign_bit neg (e * 2 ^ 52 + m))) (Err (Between (with_sign_bit neg (e * 2 ^ 52 + m)))) ≡ decimal_of neg (whole * 10 ^ k + v) k
     unfolding decimal_of
     done exact h =
         let next : e * 2 ^ 52 + m + 1 ≡ e * 2 ^ 52 + (m + 1) = omega arith in
@@ -192,10 +193,10 @@ module _ {whole m p e : ℕ} (inv : Halving whole m p e) (fits : whole < 2 ^ 64)
         let hi : (whole + 1) * 10 ^ k ≤ (m + 1) * p * 10 ^ k = mul-le-mul_right (10 ^ k) (omega (arith, inv.ceiling)) in
         lies k (e * 2 ^ 52 + m) (whole * 10 ^ k + v) (2 ^ 1074) (m * p) ((m + 1) * p) ((whole * 10 ^ k + v) * 2 ^ 1074) (pow_pos 1074) refl (units-at m e (omega arith) (λ z. inv.least) ∙ steps m) (ap units next ∙ units-at (m + 1) e (omega arith) (λ z. omega (arith, inv.least)) ∙ steps (m + 1)) (omega arith) (omega (arith, add-mul whole 1 (10 ^ k), one-mul (10 ^ k))) (omega (arith, halving-few)) neg exact h
 
-    pub wide-equal : (exact : Bool) → m * p ≡ whole → exact ≡ eqb v 0 → cond exact (Is (with_sign_bit neg (e * 2 ^ 52 + m))) (Between (with_sign_bit neg (e * 2 ^ 52 + m))) ≡ decimal_of neg (whole * 10 ^ k + v) k
+    pub wide-equal : (exact : Bool) → m * p ≡ whole → exact ≡ eqb v 0 → cond exact (Ok (with_sign_bit neg (e * 2 ^ 52 + m))) (Err (Between (with_sign_bit neg (e * 2 ^ 52 + m)))) ≡ decimal_of neg (whole * 10 ^ k + v) k
     wide-equal exact q h = done exact (h ∙ zero_test (whole * 10 ^ k) v ∙ sym (ap (λ (x : ℕ). eqb (x * 10 ^ k) (whole * 10 ^ k + v)) q))
 
-    pub wide-between : (m * p ≡ whole → ⊥) → Between (with_sign_bit neg (e * 2 ^ 52 + m)) ≡ decimal_of neg (whole * 10 ^ k + v) k
+    pub wide-between : (m * p ≡ whole → ⊥) → Err (Between (with_sign_bit neg (e * 2 ^ 52 + m))) ≡ decimal_of neg (whole * 10 ^ k + v) k
     wide-between q =
         let l : m * p < whole = omega (arith, inv.floor) in
         let g : 1 ≤ 10 ^ k = one-le-pow k 10 (omega arith) in
@@ -210,10 +211,10 @@ pub sign-none : {neg : Bool} (q : ℕ) → neg ≡ false → q ≡ with_sign_bit
 sign-none {neg} q h = rw h (omega arith)
 
 module _ {exact : Bool} {p x : ℕ} (h : p ≡ x) where
-  pub says_is : exact ≡ true → Is p ≡ cond exact (Is x) (Between x)
+  pub says_is : exact ≡ true → Ok p ≡ cond exact (Ok x) (Err (Between x))
   says_is e = rw (e, h)
 
-  pub says-between : exact ≡ false → Between p ≡ cond exact (Is x) (Between x)
+  pub says-between : exact ≡ false → Err (Between p) ≡ cond exact (Ok x) (Err (Between x))
   says-between e = rw (e, h)
 
 pub ruleset answers = (sign-plus, sign-none, says_is, says-between, rules)

@@ -2,69 +2,33 @@
 use mathlib.Core.Path.{◌≡◌, refl, sym, ◌∙◌, ap}
 use mathlib.Core.Bool.{Bool, true, false, beq}
 use mathlib.Core.List.{List, [], ◌∷◌}
-use Prim.Native.Nat.{ℕ, suc, ◌+◌, ◌-◌, ◌≤◌, ◌<◌}
-use native.Mathlib.Decide.{dec_lt}
+use Prim.Native.Nat.{ℕ, ◌+◌, ◌-◌, ◌≤◌, ◌<◌}
 use native.Mathlib.Numerals.{add-one}
 use native.Mathlib.Omega.{arith}
-use lib.Dec.{eqb, ltb}
-use lib.ListN.{length, get_or, take, drop, length-drop, drop_of_length-le}
+use lib.Dec.{eqb}
+use lib.ListN.{length, get_or, take, drop, length-drop}
 use lib.Pointwise.{pointwise}
-use lib.Seq.{drop-cons, drop-drop, get_or-drop}
+use lib.Seq.{drop-drop, get_or-drop, take_all}
 use borrow.Author.Rules.{rules}
-use borrow.Author.Tests.{eq-eqb, ne_eqb, lt-ltb, le-ltb, ltb-true, ltb-false}
 use Rattle.text.specs.Fields.{is_blank, push, opened, fields_of, same, place_from}
-use Rattle.text.specs.Scan.{lead, onward}
-use Rattle.text.specs.declared.fields.Place.{Place}
-use Rattle.text.specs.declared.fields.Place.TheVariants.{At, Nowhere}
-
--- ---- one byte
-
-pub blank-yes : (b : ℕ) → b ≡ 32 → true ≡ is_blank b
-unfolding is_blank
-blank-yes b h = rw (eq-eqb b 32 h)
-
-pub blank-tab : (b : ℕ) → (b ≡ 32 → ⊥) → b ≡ 9 → true ≡ is_blank b
-unfolding is_blank
-blank-tab b h k = rw (ne_eqb b 32 h, eq-eqb b 9 k)
-
-pub blank-else : (b : ℕ) → (b ≡ 32 → ⊥) → (b ≡ 9 → ⊥) → eqb b 13 ≡ is_blank b
-unfolding is_blank
-blank-else b h k = rw (ne_eqb b 32 h, ne_eqb b 9 k)
-
-pub ruleset blanks = (blank-yes, blank-tab, blank-else, rules)
+use Rattle.text.specs.Scan.{lead}
+use Rattle.std.proofs.Common.{Option, Some, None}
 
 -- ---- the search for a byte that is blank, or is not
 
-beq-refl : (t : Bool) → beq t t ≡ true
-beq-refl true = refl
-beq-refl false = refl
+pub lead-none : (blank : Bool) → lead blank [] ≡ 0
+unfolding lead
+lead-none blank = refl
 
-beq-other : (t u : Bool) → (t ≡ u → ⊥) → beq t u ≡ false
-beq-other true true h = absurd (h refl)
-beq-other true false h = refl
-beq-other false true h = refl
-beq-other false false h = absurd (h refl)
+pub lead-hit : (blank : Bool) (b : ℕ) (s : List ℕ) → beq (is_blank b) blank ≡ true → lead blank (b ∷ s) ≡ 0
+unfolding lead
+lead-hit blank b s h = rw h
 
--- the turns of the loop: a is where the search ends
-module _ (s : List ℕ) (i : ℕ) (blank : Bool) (a : ℕ) (inv : i + lead blank (drop i s) ≡ a) where
-  pub lead-end : length s ≤ i → i ≡ a
-  unfolding lead
-  lead-end h = let e : lead blank (drop i s) ≡ 0 = rw (drop_of_length-le s h) in omega arith
+pub lead-miss : (blank : Bool) (b : ℕ) (s : List ℕ) → beq (is_blank b) blank ≡ false → lead blank (b ∷ s) ≡ lead blank s + 1
+unfolding lead
+lead-miss blank b s h = rw (h, add-one (lead blank s))
 
-  module _ {t : Bool} (h : i < length s) (e : t ≡ is_blank (get_or s i 0)) where
-    pub lead-here : beq t blank ≡ true → i ≡ a
-    unfolding lead
-    lead-here k = let z : lead blank (drop i s) ≡ 0 = rw (drop-cons s i 0 h, ← e, k) in omega arith
-
-    pub lead-on : beq t blank ≡ false → i + 1 + lead blank (drop (i + 1) s) ≡ a
-    unfolding lead
-    lead-on k =
-        let z : lead blank (drop i s) ≡ suc (lead blank (drop (i + 1) s)) = rw (drop-cons s i 0 h, ← e, k, add-one i) in
-        omega arith
-
-pub ruleset searches = (lead-end, lead-here, lead-on, rules)
-
--- ---- the fields from a position on
+-- ---- the first field
 
 either : {P : Type 0} (t : Bool) → (t ≡ true → P) → (t ≡ false → P) → P
 either true f g = f refl
@@ -92,34 +56,29 @@ unfolding lead
 some [] z = absurd (omega arith)
 some (b ∷ s) z = either (is_blank b) (λ h. rw h (some s (rw h at z))) (λ h. rw h (rw h (omega arith)))
 
-module _ (s : List ℕ) (at from to : ℕ) (f : from ≡ at + lead false (drop at s)) (t : to ≡ from + lead true (drop from s)) where
-  from_at : drop (lead false (drop at s)) (drop at s) ≡ drop from s
-  from_at = drop-drop (lead false (drop at s)) at s ∙ rw (← f)
+pub from-lead : (s : List ℕ) {i : ℕ} → i ≡ lead false s → take (length s - i) (drop i s) ≡ drop (lead false s) s
+from-lead s {i} h = rw (← h) (take_all (length s - i) (drop i s) (simp length-drop (omega arith)))
 
-  begins : fields_of (drop at s) ≡ begun (drop from s)
-  begins = ahead (drop at s) ∙ ap begun from_at
-
-  over : length s ≤ from → fields_of (drop at s) ≡ onward s from to
-  unfolding onward begun lead
-  over h =
-      let e : drop from s ≡ [] = drop_of_length-le s h in
-      let z : lead true (drop from s) ≡ 0 = rw e in
-      begins ∙ rw (e, le-ltb from to (omega arith))
-
-  found : from < length s → fields_of (drop at s) ≡ onward s from to
-  unfolding onward begun
-  found h =
-      let z : 0 < lead true (drop from s) = rw from_at at (some (drop at s) (rw from_at (rw length-drop (omega arith)))) in
-      let e : to - from ≡ lead true (drop from s) = omega arith in
-      begins ∙ first h ∙ rw (lt-ltb from to (omega arith), e, drop-drop (lead true (drop from s)) from s, t)
+-- `t` is what stands from the first field on
+module _ (s t : List ℕ) (e : t ≡ drop (lead false s) s) where
+  pub none-left : length t ≡ 0 → fields_of s ≡ []
+  unfolding begun
+  none-left z = ahead s ∙ rw (← e, length-zero t z)
     where
-      first : from < length s → begun (drop from s) ≡ take (lead true (drop from s)) (drop from s) ∷ fields_of (drop (lead true (drop from s)) (drop from s))
-      first k = rw (drop-cons s from 0 k)
+      length-zero : (l : List ℕ) → length l ≡ 0 → l ≡ []
+      length-zero [] h = refl
+      length-zero (b ∷ l) h = absurd (omega arith)
 
-  pub next-is : fields_of (drop at s) ≡ onward s from to
-  next-is = either (ltb from (length s)) (λ h. found (ltb-true from (length s) h)) (λ h. over (ltb-false from (length s) h))
+  pub one-left : (length t ≡ 0 → ⊥) → fields_of s ≡ take (lead true t) t ∷ fields_of (drop (lead true t) t)
+  unfolding begun
+  one-left z = ahead s ∙ rw (← e) (opened-at t z)
+    where
+      opened-at : (l : List ℕ) → (length l ≡ 0 → ⊥) → begun l ≡ take (lead true l) l ∷ fields_of (drop (lead true l) l)
+      opened-at [] h = absurd (h refl)
+      opened-at (b ∷ l) h = refl
 
-pub ruleset nexts = (next-is, rules)
+  pub one-shorter : (length t ≡ 0 → ⊥) → 0 < lead true t
+  one-shorter z = let p : 0 < length t = omega arith in rw e (some s (rw e at p))
 
 -- ---- words that are the same
 
@@ -131,58 +90,33 @@ same-is [] (b ∷ w) = refl
 same-is (a ∷ x) [] = refl
 same-is (a ∷ x) (b ∷ w) = rw (same-is x w) refl
 
--- ---- the fields that are left, after so many. `at` is the place from which the fields go on
+-- ---- the fields that are left, after so many
 
-module _ (s : List ℕ) (at from to : ℕ) (e : fields_of (drop at s) ≡ onward s from to) where
-  none : from ≡ to → fields_of (drop at s) ≡ []
-  unfolding onward
-  none h = e ∙ rw (le-ltb from to (omega arith))
+-- l are the fields of all, r those that are left
+pub nth-more : {f : List ℕ} (l : List (List ℕ)) {r : List (List ℕ)} (i : ℕ) → drop i l ≡ f ∷ r → drop (i + 1) l ≡ r
+nth-more l i e = sym (drop-drop 1 i l) ∙ ap (drop 1) e
 
-  one : (from ≡ to → ⊥) → from ≤ to → fields_of (drop at s) ≡ take (to - from) (drop from s) ∷ fields_of (drop to s)
-  unfolding onward
-  one z l = e ∙ rw (lt-ltb from to (omega arith))
+pub nth-none : (l : List (List ℕ)) (i n : ℕ) → i ≤ n → drop i l ≡ [] → [] ≡ get_or l n []
+nth-none l i n h e = let z : i + (n - i) ≡ n = omega arith in sym (ap (λ (x : ℕ). get_or l x []) (sym z) ∙ sym (get_or-drop i l (n - i) []) ∙ rw e refl)
 
-  module _ (left n : ℕ) (inv : drop left (fields_of (drop at s)) ≡ drop n (fields_of s)) where
-    first-left : get_or (fields_of s) n [] ≡ get_or (fields_of (drop at s)) left []
-    first-left =
-        let a : get_or (drop n (fields_of s)) 0 [] ≡ get_or (fields_of s) n [] = get_or-drop n (fields_of s) 0 [] ∙ ap (λ (x : ℕ). get_or (fields_of s) x []) (omega arith) in
-        let b : get_or (drop left (fields_of (drop at s))) 0 [] ≡ get_or (fields_of (drop at s)) left [] = get_or-drop left (fields_of (drop at s)) 0 [] ∙ ap (λ (x : ℕ). get_or (fields_of (drop at s)) x []) (omega arith) in
-        sym a ∙ rw (← inv) b
+pub nth-here : {f : List ℕ} (l : List (List ℕ)) {r : List (List ℕ)} (i : ℕ) → drop i l ≡ f ∷ r → f ≡ get_or l i []
+nth-here l i e = let z : i + 0 ≡ i = omega arith in sym (ap (λ (x : ℕ). get_or l x []) (sym z) ∙ sym (get_or-drop i l 0 []) ∙ rw e refl)
 
-    pub nth-none : from ≡ to → take (to - from) (drop from s) ≡ get_or (fields_of s) n []
-    nth-none h = let z : to - from ≡ 0 = omega arith in rw (z, first-left, none h)
+-- one turn of the search for a word: q is its place
+module _ (n : ℕ) (w : List ℕ) {l : List (List ℕ)} (q : Option ℕ) (inv : place_from n w l ≡ q) where
+  pub place_none : l ≡ [] → None ≡ q
+  unfolding place_from
+  place_none e = rw e at inv
 
-    pub nth-more : (from ≡ to → ⊥) → from ≤ to → 0 < left → drop (left - 1) (fields_of (drop to s)) ≡ drop n (fields_of s)
-    nth-more h l z = let k : left ≡ suc (left - 1) = omega arith in rw (one h l, k) at inv
-
-    pub nth-done : left ≤ 0 → from ≤ to → take (to - from) (drop from s) ≡ get_or (fields_of s) n []
-    nth-done h l =
-        let z : left ≡ 0 = omega arith in
-        elim (dec_lt from to) [ yes k ↦ rw (first-left, z, one (λ e. omega arith) l) | no k ↦ nth-none (omega arith) ]
-
-  module _ (n q : ℕ) (inv : n + length (fields_of (drop at s)) ≡ q) where
-    pub count-done : from ≡ to → n ≡ q
-    count-done h = let z : n + 0 ≡ q = rw (none h) at inv in omega arith
-
-    pub count-more : (from ≡ to → ⊥) → from ≤ to → n + 1 + length (fields_of (drop to s)) ≡ q
-    count-more h l = let z : n + suc (length (fields_of (drop to s))) ≡ q = rw (one h l) at inv in omega arith
-
-  module _ (n : ℕ) (w : List ℕ) (q : Place) (inv : place_from n w (fields_of (drop at s)) ≡ q) where
-    pub place_none : from ≡ to → Nowhere ≡ q
+  module _ {x : List ℕ} {r : List (List ℕ)} (e : l ≡ x ∷ r) (t : Bool) (f : t ≡ pointwise eqb x w) where
+    pub place_here : t ≡ true → Some n ≡ q
     unfolding place_from
-    place_none h = rw (none h) at inv
+    place_here z = rw (e, same-is x w, ← f, z) at inv
 
-    module _ (h : from ≡ to → ⊥) (l : from ≤ to) (t : Bool) (f : t ≡ pointwise eqb (take (to - from) (drop from s)) w) where
-      pub place_here : t ≡ true → At n ≡ q
-      unfolding place_from
-      place_here z = rw (one h l, same-is (take (to - from) (drop from s)) w, ← f, z) at inv
+    pub place-more : t ≡ false → place_from (n + 1) w r ≡ q
+    unfolding place_from
+    place-more z = rw (e, same-is x w, ← f, z) at inv
 
-      pub place-more : t ≡ false → place_from (n + 1) w (fields_of (drop to s)) ≡ q
-      unfolding place_from
-      place-more z = rw (one h l, same-is (take (to - from) (drop from s)) w, ← f, z) at inv
-
-pub ruleset nths = (nth-none, nth-more, nth-done, rules)
-
-pub ruleset counts = (count-done, count-more, rules)
+pub ruleset nths = (nth-more, nth-none, nth-here, rules)
 
 pub ruleset places = (place_none, place_here, place-more, rules)

@@ -1,5 +1,4 @@
 -- `vosemaqe_compile` reports what `compile` answers.
-use borrow.Author.Rules.{rules}
 use Rattle.vosemaqe.proofs.Laws.{compile-at}
 use Rattle.vosemaqe.proofs.vosemaqe_compile.Goals as goal
 

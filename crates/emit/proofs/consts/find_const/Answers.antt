@@ -3,11 +3,11 @@ use borrow.Author.Rules.{rules}
 use Rattle.emit.proofs.ConstLaws.{seeks}
 use Rattle.emit.proofs.consts.find_const.Goals as goal
 
-pub returns-then-payloads-k : goal.returns-then-payloads-k
-returns-then-payloads-k c = search (seeks, rules)
+pub is-requires : goal.is-requires
+is-requires c = search (seeks, rules)
+
+pub returns-then-is : goal.returns-then-is
+returns-then-is c = search (seeks, rules)
 
 pub loop-k-preserved : goal.loop-k-preserved
 loop-k-preserved c = search (seeks, rules)
-
-pub returns : goal.returns
-returns c = search (seeks, rules)

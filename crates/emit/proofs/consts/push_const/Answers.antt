@@ -3,8 +3,8 @@ use borrow.Author.Rules.{rules}
 use Rattle.emit.proofs.ConstLaws.{slots}
 use Rattle.emit.proofs.consts.push_const.Goals as goal
 
-pub returns-then-k-n : goal.returns-then-k-n
-returns-then-k-n c = search (slots, rules)
+pub returns-in-Some : goal.returns-in-Some
+returns-in-Some c = search (slots, rules)
 
 pub returns-then-kinds-n : goal.returns-then-kinds-n
 returns-then-kinds-n c = search (slots, rules)

@@ -1,27 +1,10 @@
--- `decimal::all_digits` meets its contract. The invariant: what is left to look at gives the answer.
-use Rattle.text.proofs.decimal.Digits.{alls}
+-- Each byte is tested.
+use Rattle.std.proofs.Common.{◌∙◌, rules, tests}
+use Rattle.std.specs.Char.{is_ascii_digit}
+use Rattle.std.proofs.lemmas.Iterator.{YieldsList-from_slice}
+use Rattle.std.proofs.lemmas.Iterator.Search.{all_from_yields_List}
+use Rattle.text.proofs.decimal.Digits.{all-is}
 use Rattle.text.proofs.decimal.all_digits.Goals as goal
 
-pub loop-i-init : goal.loop-i-init
-loop-i-init c = search alls
-
-pub bounds-s-i : goal.bounds-s-i
-bounds-s-i c = search alls
-
-pub is_digit-requires : goal.is_digit-requires
-is_digit-requires c = search alls
-
-pub overflow_add-i : goal.overflow_add-i
-overflow_add-i c = search alls
-
-pub loop-i-smaller : goal.loop-i-smaller
-loop-i-smaller c = search alls
-
-pub loop-i-preserved : goal.loop-i-preserved
-loop-i-preserved c = search alls
-
-pub returns-else-is_digit : goal.returns-else-is_digit
-returns-else-is_digit c = search alls
-
 pub returns : goal.returns
-returns c = search alls
+returns c = all_from_yields_List is_ascii_digit _ _ _ c.all.ensures.ran (YieldsList-from_slice c.args.s.now cc) (λ x b q k. search (rules, tests)) ∙ all-is c.args.s.now

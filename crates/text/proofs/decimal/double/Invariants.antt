@@ -1,9 +1,6 @@
--- `decimal::double` meets its contract. The invariant: the digits from i on are doubled, with what is carried out of them, and those before are as they were.
+-- The digits from i on are doubled, with what is carried out of them, and those before are as they were.
 use Rattle.text.proofs.decimal.Digits.{Doubling}
 use Rattle.text.proofs.decimal.double.Given as goal
 
 abbrev pub invariant-loop-i : goal.invariant-loop-i
 invariant-loop-i l = Doubling l.initial.f l.f l.carry l.i
-
-abbrev pub decreases-loop-i : goal.decreases-loop-i
-decreases-loop-i l = l.i

@@ -1,24 +1,9 @@
--- `decimal::is_zero` meets its contract. The invariant: what is left to look at has the value of all.
-use Rattle.text.proofs.decimal.Digits.{zeros}
+-- Each digit is tested.
+use Rattle.std.proofs.Common.{◌∙◌, eqb, rules, tests}
+use Rattle.std.proofs.lemmas.Iterator.{YieldsList-from_slice}
+use Rattle.std.proofs.lemmas.Iterator.Search.{all_from_yields_List}
+use Rattle.text.proofs.decimal.Digits.{zero-is}
 use Rattle.text.proofs.decimal.is_zero.Goals as goal
 
-pub loop-i-init : goal.loop-i-init
-loop-i-init c = search zeros
-
-pub bounds-f-i : goal.bounds-f-i
-bounds-f-i c = search zeros
-
-pub returns-then-f-i-ne48 : goal.returns-then-f-i-ne48
-returns-then-f-i-ne48 c = search zeros
-
-pub overflow_add-i : goal.overflow_add-i
-overflow_add-i c = search zeros
-
-pub loop-i-smaller : goal.loop-i-smaller
-loop-i-smaller c = search zeros
-
-pub loop-i-preserved : goal.loop-i-preserved
-loop-i-preserved c = search zeros
-
 pub returns : goal.returns
-returns c = search zeros
+returns c = all_from_yields_List (λ d. eqb d 48) _ _ _ c.all.ensures.ran (YieldsList-from_slice c.args.f.now cc) (λ x b q k. search (rules, tests)) ∙ zero-is c.args.f.now c.requires

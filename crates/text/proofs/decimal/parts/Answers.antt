@@ -1,24 +1,9 @@
--- `decimal::parts` meets its contract: each return is a case of the two parts.
-use Rattle.text.proofs.decimal.Texts.{pieces}
+-- What the whole part's refusal becomes.
+use Rattle.std.proofs.Common.{refl}
+use Rattle.std.proofs.lemmas.Result.{err_from_is_err_and}
+use Rattle.text.specs.Decimal.{parts_of}
 use Rattle.text.proofs.decimal.parts.Goals as goal
 
-pub all_digits-requires : goal.all_digits-requires
-all_digits-requires c = search pieces
-
-pub exactly-requires : goal.exactly-requires
-exactly-requires c = search pieces
-
-pub returns-then-f-le-DIGITS : goal.returns-then-f-le-DIGITS
-returns-then-f-le-DIGITS c = search pieces
-
-pub returns-then-all_digits : goal.returns-then-all_digits
-returns-then-all_digits c = search pieces
-
-pub returns-else-all_digits : goal.returns-else-all_digits
-returns-else-all_digits c = search pieces
-
-pub returns-in-NoNumber : goal.returns-in-NoNumber
-returns-in-NoNumber c = search pieces
-
-pub returns-in-TooLarge : goal.returns-in-TooLarge
-returns-in-TooLarge c = search pieces
+pub returns-in_err-a : goal.returns-in_err-a
+unfolding parts_of
+returns-in_err-a c = let p = err_from_is_err_and c.from_residual.result c.from_residual.ensures.1 in rw (p.1, p.2, c.in_err-a.was) refl

@@ -1,30 +1,7 @@
--- `numeral::digits_after` meets its contract.
-use Rattle.text.proofs.numeral.Reading.{turns}
+-- One digit is read.
+use Rattle.std.proofs.Common.{refl}
+use Rattle.text.proofs.numeral.Reading.{read_more}
 use Rattle.text.proofs.numeral.digits_after.Goals as goal
 
-pub loop-i-init : goal.loop-i-init
-loop-i-init c = search turns
-
-pub bounds-s-i : goal.bounds-s-i
-bounds-s-i c = search turns
-
-pub more-requires : goal.more-requires
-more-requires c = search turns
-
-pub overflow_add-i : goal.overflow_add-i
-overflow_add-i c = search turns
-
-pub loop-i-smaller : goal.loop-i-smaller
-loop-i-smaller c = search turns
-
-pub loop-i-preserved : goal.loop-i-preserved
-loop-i-preserved c = search turns
-
-pub returns-in-NoNumber : goal.returns-in-NoNumber
-returns-in-NoNumber c = search turns
-
-pub returns-in-TooLarge : goal.returns-in-TooLarge
-returns-in-TooLarge c = search turns
-
-pub returns : goal.returns
-returns c = search turns
+pub loop-b-preserved : goal.loop-b-preserved
+loop-b-preserved c = read_more c.args.base c.loop-b.so_far c.args.s.now c.loop-b.b-index _ c.loop-b.invariant c.loop-b-test.true refl c.more.ensures c.in_ok-so_far.was

@@ -1,7 +1,0 @@
--- `word::emit_load` meets its contract: the word is the instruction's.
-use borrow.Author.Rules.{rules}
-use Rattle.emit.proofs.Laws.{leaves}
-use Rattle.emit.proofs.word.emit_load.Goals as goal
-
-pub returns : goal.returns
-returns c = search (leaves, rules)

@@ -1,0 +1,2 @@
+-- The laws that the proofs of `replay_io` cite.
+pub mod Made

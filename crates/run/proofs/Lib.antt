@@ -1,2 +1,0 @@
--- The laws that the proofs of `run` cite.
-pub mod NextLaws
