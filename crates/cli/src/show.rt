@@ -149,7 +149,13 @@ fn say_evaluated(
     say(rt, b"tree:  ")?;
     say_tree(
         rt,
-        eval::evaluate(nodes, params_of(h), locals_of(h), values.kinds, values.payloads),
+        eval::evaluate(
+            nodes,
+            params_of(h),
+            locals_of(h),
+            values.kinds,
+            values.payloads,
+        ),
     )
 }
 

@@ -253,11 +253,7 @@ fn jmp(z: Disp) -> Effect
     Effect::Branch(z, Ok(Value::Bool(true)))
 }
 
-pub fn effect_of(
-    i: Op,
-    registers: Pairs<'_>,
-    slots: Pairs<'_>,
-) -> Effect
+pub fn effect_of(i: Op, registers: Pairs<'_>, slots: Pairs<'_>) -> Effect
     ensures { asked result
         ≡ Fx.effect_of (held registers.entry.kinds.now registers.entry.payloads.now) (held slots.entry.kinds.now slots.entry.payloads.now) i }
 {
