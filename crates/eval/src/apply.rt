@@ -16,21 +16,21 @@ use value::Value;
 use value::pairs::Pairs;
 
 // The value of local p. `evaluate` has refused every ill-formed pair before.
-fn local(p: u64, locals: Pairs<'_>) -> Result<Value, Fault>
-    requires p_in_bounds { p < length locals.kinds.now }
-    requires lends { Lends locals.kinds.now locals.payloads.now }
+fn local(p: u64, locals: &Pairs<'_>) -> Result<Value, Fault>
+    requires p_in_bounds { p < length locals.now.kinds.now }
+    requires lends { Lends locals.now.kinds.now locals.now.payloads.now }
     ensures { result_of result
-        ≡ OpsAnswer.is (get_or (datums locals.entry.kinds.now locals.entry.payloads.now) p Vs.nil) }
+        ≡ OpsAnswer.is (get_or (datums locals.now.kinds.now locals.now.payloads.now) p Vs.nil) }
 {
     locals.read(p as usize)
 }
 
 // A literal, or the value of a local.
-pub fn leaf(k: u64, p: u64, locals: Pairs<'_>) -> Result<Value, Fault>
+pub fn leaf(k: u64, p: u64, locals: &Pairs<'_>) -> Result<Value, Fault>
     requires k_bound { k ≤ 5 }
-    requires p_in_bounds { k ≡ 5 → p < length locals.kinds.now }
-    requires lends { Lends locals.kinds.now locals.payloads.now }
-    ensures { result_of result ≡ get_or (leaves (datums locals.entry.kinds.now locals.entry.payloads.now) p) k (OpsAnswer.fault ill_formed) }
+    requires p_in_bounds { k ≡ 5 → p < length locals.now.kinds.now }
+    requires lends { Lends locals.now.kinds.now locals.now.payloads.now }
+    ensures { result_of result ≡ get_or (leaves (datums locals.now.kinds.now locals.now.payloads.now) p) k (OpsAnswer.fault ill_formed) }
 {
     match k {
         table::NIL => Ok(Value::Nil),

@@ -20,11 +20,12 @@ use table::{kind_at, payload_at};
 use value::Value;
 use value::pairs::Pairs;
 
-// The answer of the tree at node i on the locals lent. Two calls of itself are all that it has, so that a level takes little of the stack.
-fn eval_node(nodes: &[u64], locals: Pairs<'_>, i: usize) -> Result<Value, Fault>
-    requires node { Node nodes.now (length locals.kinds.now) i }
-    requires lends { Lends locals.kinds.now locals.payloads.now }
-    ensures { result_of result ≡ eval_of (datums locals.entry.kinds.now locals.entry.payloads.now) (tree nodes.now i) }
+// The answer of the tree at node i on the locals lent. Two calls of itself are all that it has, and its locals are one reference, so that a level takes
+// little of the stack.
+fn eval_node(nodes: &[u64], locals: &Pairs<'_>, i: usize) -> Result<Value, Fault>
+    requires node { Node nodes.now (length locals.now.kinds.now) i }
+    requires lends { Lends locals.now.kinds.now locals.now.payloads.now }
+    ensures { result_of result ≡ eval_of (datums locals.now.kinds.now locals.now.payloads.now) (tree nodes.now i) }
 {
     let k = kind_at(nodes, i);
     if k <= table::REF {
@@ -61,7 +62,7 @@ pub fn evaluate(
         payloads: &payloads[..base],
     };
     if lent.all_well() {
-        return eval_node(nodes, lent, nodes.len() / 4 - 1);
+        return eval_node(nodes, &lent, nodes.len() / 4 - 1);
     }
     Err(Fault::IllFormed)
 }
