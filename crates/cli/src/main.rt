@@ -19,6 +19,7 @@ use std::io::{Cursor, Read, Write};
 use std::rt::Files;
 use std::{fs, io, str};
 use text::scan::find;
+use value::pairs::PairsMut;
 
 // Room for a text, for the nodes of an expression that is shown, and for as many values as there are registers.
 const TEXT: usize = 262144;
@@ -58,7 +59,11 @@ fn shown(rt: &impl Print, name: &[u8], s: &[u8], line: u64, h: Head) -> io::Resu
     let mut payloads = [0u64; VALUES];
     put_nodes(s, &mut nodes);
     put_values(s, &mut kinds, &mut payloads);
-    show(rt, name, s, line, &mut nodes, &mut kinds, &mut payloads, h)
+    let mut registers = PairsMut {
+        kinds: &mut kinds,
+        payloads: &mut payloads,
+    };
+    show(rt, name, s, line, &mut nodes, &mut registers, h)
 }
 
 fn expression(rt: &impl Print, name: &[u8], s: &[u8], line: u64, h: Head) -> io::Result<Outcome> {

@@ -10,6 +10,7 @@ use reader::gather::put_spans;
 use reader::head::{Head, NODES, Said, base_of, budget_of, locals_of, params_of};
 use std::io;
 use value::Value;
+use value::pairs::{Pairs, PairsMut};
 
 // What became of an expression.
 #[derive(Clone, Copy)]
@@ -86,8 +87,8 @@ fn say_layout(rt: &impl Print, h: Head) -> io::Result<()> {
 }
 
 // Each pair, after its number: a register that is given a value, or a constant.
-fn list_pairs(rt: &impl Print, before: &[u8], kinds: &[u8], payloads: &[u64]) -> io::Result<()> {
-    for (i, (kind, payload)) in kinds.iter().zip(payloads).enumerate() {
+fn list_pairs(rt: &impl Print, before: &[u8], pairs: Pairs<'_>) -> io::Result<()> {
+    for (i, (kind, payload)) in pairs.kinds.iter().zip(pairs.payloads).enumerate() {
         tell(rt, before, &[i as u64])?;
         say_value(rt, *kind, *payload)?;
         say(rt, b"\n")?;
@@ -98,16 +99,15 @@ fn list_pairs(rt: &impl Print, before: &[u8], kinds: &[u8], payloads: &[u64]) ->
 fn list(
     rt: &impl Print,
     words: &[u64],
-    slot_kinds: &[u8],
-    slot_payloads: &[u64],
+    slots: Pairs<'_>,
     register: u16,
     frame: u16,
 ) -> io::Result<()> {
     say(rt, b"words:\n")?;
     list_words(rt, words)?;
-    if slot_kinds.len() != 0 {
+    if slots.kinds.len() != 0 {
         say(rt, b"constants:\n")?;
-        list_pairs(rt, b"&  ", slot_kinds, slot_payloads)?;
+        list_pairs(rt, b"&  ", slots)?;
     }
     tell(
         rt,
@@ -136,17 +136,26 @@ fn say_tree(rt: &impl Print, a: Result<Value, Fault>) -> io::Result<bool> {
 fn say_evaluated(
     rt: &impl Print,
     nodes: &[u64],
-    kinds: &[u8],
-    payloads: &[u64],
+    registers: Pairs<'_>,
     h: Head,
 ) -> io::Result<bool> {
-    let n = h.values.min(kinds.len());
+    let n = h.values.min(registers.kinds.len());
+    let values = Pairs {
+        kinds: &registers.kinds[..n],
+        payloads: registers.payloads,
+    };
     say(rt, b"values:\n")?;
-    list_pairs(rt, b"  r% = ", &kinds[..n], payloads)?;
+    list_pairs(rt, b"  r% = ", values)?;
     say(rt, b"tree:  ")?;
     say_tree(
         rt,
-        eval::evaluate(nodes, params_of(h), locals_of(h), &kinds[..n], payloads),
+        eval::evaluate(
+            nodes,
+            params_of(h),
+            locals_of(h),
+            values.kinds,
+            values.payloads,
+        ),
     )
 }
 
@@ -158,26 +167,15 @@ fn say_steps(rt: &impl Print, n: u64) -> io::Result<()> {
 }
 
 // The value of a register.
-fn say_register(
-    rt: &impl Print,
-    kinds: &[u8],
-    payloads: &[u64],
-    register: usize,
-) -> io::Result<()> {
-    if let (Some(kind), Some(payload)) = (kinds.get(register), payloads.get(register)) {
-        say_value(rt, *kind, *payload)?;
+fn say_register(rt: &impl Print, registers: Pairs<'_>, register: usize) -> io::Result<()> {
+    if let Some((kind, payload)) = registers.get(register) {
+        say_value(rt, kind, payload)?;
     }
     tell(rt, b" in r%", &[register as u64])
 }
 
 // Whether the words end with a value.
-fn say_run(
-    rt: &impl Print,
-    r: Ran,
-    kinds: &[u8],
-    payloads: &[u64],
-    register: usize,
-) -> io::Result<bool> {
+fn say_run(rt: &impl Print, r: Ran, registers: Pairs<'_>, register: usize) -> io::Result<bool> {
     if let Err(f) = r.end {
         tell(
             rt,
@@ -188,7 +186,7 @@ fn say_run(
         say_meaning(rt, f)?;
         return Ok(false);
     }
-    say_register(rt, kinds, payloads, register)?;
+    say_register(rt, registers, register)?;
     say_steps(rt, r.steps)?;
     say(rt, b"\n")?;
     Ok(true)
@@ -198,24 +196,22 @@ fn say_run(
 fn run(
     rt: &impl Print,
     words: &[u64],
-    slot_kinds: &[u8],
-    slot_payloads: &[u64],
-    kinds: &mut [u8],
-    payloads: &mut [u64],
+    slots: Pairs<'_>,
+    registers: &mut PairsMut<'_>,
     made: Compiled,
     budget: u64,
 ) -> io::Result<bool> {
-    let n = usize::from(made.frame).min(kinds.len());
+    let n = usize::from(made.frame).min(registers.kinds.len());
     let r = run::run(
         words,
         0,
-        &mut kinds[..n],
-        payloads,
-        slot_kinds,
-        slot_payloads,
+        &mut registers.kinds[..n],
+        registers.payloads,
+        slots.kinds,
+        slots.payloads,
         budget,
     );
-    say_run(rt, r, kinds, payloads, usize::from(made.register))
+    say_run(rt, r, registers.shared(), usize::from(made.register))
 }
 
 // Whether each parameter and local has a value. Without them the words are not run, which is told.
@@ -246,32 +242,14 @@ fn answers(
     made: Compiled,
     nodes: &[u64],
     words: &[u64],
-    slot_kinds: &[u8],
-    slot_payloads: &[u64],
-    kinds: &mut [u8],
-    payloads: &mut [u64],
+    slots: Pairs<'_>,
+    registers: &mut PairsMut<'_>,
     h: Head,
 ) -> io::Result<Outcome> {
-    list(
-        rt,
-        words,
-        slot_kinds,
-        slot_payloads,
-        made.register,
-        made.frame,
-    )?;
-    let tree = say_evaluated(rt, nodes, kinds, payloads, h)?;
+    list(rt, words, slots, made.register, made.frame)?;
+    let tree = say_evaluated(rt, nodes, registers.shared(), h)?;
     if is_ready(rt, h)? {
-        let ran = run(
-            rt,
-            words,
-            slot_kinds,
-            slot_payloads,
-            kinds,
-            payloads,
-            made,
-            budget_of(h),
-        )?;
+        let ran = run(rt, words, slots, registers, made, budget_of(h))?;
         return Ok(joint(tree, ran));
     }
     Ok(Outcome::Fault)
@@ -283,10 +261,8 @@ fn compiled(
     c: Result<Compiled, Fault>,
     nodes: &[u64],
     words: &[u64],
-    slot_kinds: &[u8],
-    slot_payloads: &[u64],
-    kinds: &mut [u8],
-    payloads: &mut [u64],
+    slots: Pairs<'_>,
+    registers: &mut PairsMut<'_>,
     h: Head,
 ) -> io::Result<Outcome> {
     let made = match c {
@@ -297,26 +273,19 @@ fn compiled(
         }
     };
     let w = made.words.min(words.len());
-    let k = made.slots.min(slot_kinds.len());
-    answers(
-        rt,
-        made,
-        nodes,
-        &words[..w],
-        &slot_kinds[..k],
-        slot_payloads,
-        kinds,
-        payloads,
-        h,
-    )
+    let k = made.slots.min(slots.kinds.len());
+    let filled = Pairs {
+        kinds: &slots.kinds[..k],
+        payloads: slots.payloads,
+    };
+    answers(rt, made, nodes, &words[..w], filled, registers, h)
 }
 
 // The words, in room for those of every table that is shown.
 fn compile(
     rt: &impl Print,
     nodes: &[u64],
-    kinds: &mut [u8],
-    payloads: &mut [u64],
+    registers: &mut PairsMut<'_>,
     h: Head,
 ) -> io::Result<Outcome> {
     let mut code = [0u64; WORDS];
@@ -331,17 +300,11 @@ fn compile(
         &mut slot_kinds,
         &mut slot_payloads,
     );
-    compiled(
-        rt,
-        c,
-        nodes,
-        &code,
-        &slot_kinds,
-        &slot_payloads,
-        kinds,
-        payloads,
-        h,
-    )
+    let slots = Pairs {
+        kinds: &slot_kinds,
+        payloads: &slot_payloads,
+    };
+    compiled(rt, c, nodes, &code, slots, registers, h)
 }
 
 // The check of a table that is completed, with the first and depth that were given. One that is refused is completed again.
@@ -386,15 +349,14 @@ fn show_table(
     s: &[u8],
     line: u64,
     nodes: &mut [u64],
-    kinds: &mut [u8],
-    payloads: &mut [u64],
+    registers: &mut PairsMut<'_>,
     h: Head,
 ) -> io::Result<Outcome> {
     if let Err(f) = check(s, nodes, h) {
         refuse(rt, f, name, s, line, nodes, h)?;
         return Ok(Outcome::Refused);
     }
-    let o = compile(rt, nodes, kinds, payloads, h)?;
+    let o = compile(rt, nodes, registers, h)?;
     if let Outcome::Refused = o {
         say_from(rt, name, line)?;
     }
@@ -408,11 +370,10 @@ pub fn show(
     s: &[u8],
     line: u64,
     nodes: &mut [u64],
-    kinds: &mut [u8],
-    payloads: &mut [u64],
+    registers: &mut PairsMut<'_>,
     h: Head,
 ) -> io::Result<Outcome> {
     let room = (4 * h.nodes.min(NODES)).min(nodes.len());
     say_layout(rt, h)?;
-    show_table(rt, name, s, line, &mut nodes[..room], kinds, payloads, h)
+    show_table(rt, name, s, line, &mut nodes[..room], registers, h)
 }

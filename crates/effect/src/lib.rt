@@ -13,7 +13,8 @@ ghost use Rattle.effect.specs.Forms.{asked, OfRegisters, OfSlots, OfAny};
 use faults::Fault;
 use insns::op::{Arith, Bare, Cmp, Disp, Imm16, Imm40, Op, Sense, Shift, Slot, Three, Two};
 use ops::binary;
-use value::{Value, from_pair};
+use value::Value;
+use value::pairs::Pairs;
 
 // An answer for a register, a displacement with an answer to branch by, the next word, or a stop with its fault.
 #[derive(Clone, Copy)]
@@ -22,24 +23,6 @@ pub enum Effect {
     Branch(Disp, Result<Value, Fault>),
     Next,
     Halt(Fault),
-}
-
-// Registers and slots are lent as kinds and payloads; the shorter slice counts.
-pub fn room(kinds: &[u8], payloads: &[u64]) -> usize
-    ensures { result ≡ Fx.size kinds.now payloads.now }
-{
-    kinds.len().min(payloads.len())
-}
-
-// A register or a slot.
-#[tactic(auto, unfolding(crate::specs::Effect::held))]
-fn read(kinds: &[u8], payloads: &[u64], r: usize) -> Result<Value, Fault>
-    ensures { result_of result ≡ held kinds.now payloads.now r }
-{
-    if room(kinds, payloads) <= r {
-        return Err(Fault::OutOfRange);
-    }
-    from_pair(kinds[r], payloads[r]).ok_or(Fault::IllFormed)
 }
 
 // The operator of a node kind on what was read. Left before right: the first fault counts.
@@ -180,87 +163,87 @@ fn load_imm40(d: u16, z: Imm40) -> Effect
     Effect::Write(d, raw(z))
 }
 
-fn two(k: Two, d: u16, a: u16, kinds: &[u8], payloads: &[u64]) -> Effect
-    ensures { OfRegisters (held kinds.now payloads.now) (Op.Two k d a) (asked result) }
+fn two(k: Two, d: u16, a: u16, registers: Pairs<'_>) -> Effect
+    ensures { OfRegisters (held registers.entry.kinds.now registers.entry.payloads.now) (Op.Two k d a) (asked result) }
 {
     match k {
-        Two::Mov => Effect::Write(d, read(kinds, payloads, a as usize)),
-        Two::Not => Effect::Write(d, inverted(read(kinds, payloads, a as usize))),
+        Two::Mov => Effect::Write(d, registers.read(a as usize)),
+        Two::Not => Effect::Write(d, inverted(registers.read(a as usize))),
         Two::BitNot | Two::CellSet | Two::CellGet | Two::ArrPush | Two::BaClone => {
             Effect::Halt(Fault::NotRun)
         }
     }
 }
 
-fn slot(k: Slot, d: u16, s: u32, slot_kinds: &[u8], slot_payloads: &[u64]) -> Effect
-    ensures { OfSlots (held slot_kinds.now slot_payloads.now) (Op.Slot k d s) (asked result) }
+fn slot(k: Slot, d: u16, s: u32, slots: Pairs<'_>) -> Effect
+    ensures { OfSlots (held slots.entry.kinds.now slots.entry.payloads.now) (Op.Slot k d s) (asked result) }
 {
     match k {
-        Slot::LoadConst => Effect::Write(d, read(slot_kinds, slot_payloads, s as usize)),
+        Slot::LoadConst => Effect::Write(d, slots.read(s as usize)),
         Slot::GetGlobal | Slot::SetGlobal | Slot::ArrNew => Effect::Halt(Fault::NotRun),
     }
 }
 
-fn three(k: Three, d: u16, a: u16, b: u16, kinds: &[u8], payloads: &[u64]) -> Effect
-    ensures { OfRegisters (held kinds.now payloads.now) (Op.Three k d a b) (asked result) }
+fn three(k: Three, d: u16, a: u16, b: u16, registers: Pairs<'_>) -> Effect
+    ensures { OfRegisters (held registers.entry.kinds.now registers.entry.payloads.now) (Op.Three k d a b) (asked result) }
 {
     let kind = three_kind(k);
     if kind == 0 {
         return Effect::Halt(Fault::NotRun);
     }
-    let x = read(kinds, payloads, a as usize);
-    let y = read(kinds, payloads, b as usize);
+    let x = registers.read(a as usize);
+    let y = registers.read(b as usize);
     Effect::Write(d, both(kind, x, y))
 }
 
-fn shift(k: Shift, d: u16, a: u16, n: u8, kinds: &[u8], payloads: &[u64]) -> Effect
-    ensures { OfRegisters (held kinds.now payloads.now) (Op.Shift k d a n) (asked result) }
+fn shift(k: Shift, d: u16, a: u16, n: u8, registers: Pairs<'_>) -> Effect
+    ensures { OfRegisters (held registers.entry.kinds.now registers.entry.payloads.now) (Op.Shift k d a n) (asked result) }
 {
-    let x = read(kinds, payloads, a as usize);
+    let x = registers.read(a as usize);
     Effect::Write(d, both(shift_kind(k), x, count(n)))
 }
 
-fn bit_and_mask(d: u16, a: u16, lo: u8, len: u8, kinds: &[u8], payloads: &[u64]) -> Effect
-    ensures { OfRegisters (held kinds.now payloads.now) (Op.BitAndMask d a lo len) (asked result) }
+fn bit_and_mask(d: u16, a: u16, lo: u8, len: u8, registers: Pairs<'_>) -> Effect
+    ensures { OfRegisters (held registers.entry.kinds.now registers.entry.payloads.now) (Op.BitAndMask d a lo len) (asked result) }
 {
-    let x = read(kinds, payloads, a as usize);
+    let x = registers.read(a as usize);
     Effect::Write(d, both(table::BIT_AND, x, mask(lo, len)))
 }
 
-fn rshift_mask(d: u16, a: u16, n: u8, lo: u8, len: u8, kinds: &[u8], payloads: &[u64]) -> Effect
-    ensures { OfRegisters (held kinds.now payloads.now) (Op.RshiftMask d a n lo len) (asked result) }
+fn rshift_mask(d: u16, a: u16, n: u8, lo: u8, len: u8, registers: Pairs<'_>) -> Effect
+    ensures { OfRegisters (held registers.entry.kinds.now registers.entry.payloads.now) (Op.RshiftMask d a n lo len) (asked result) }
 {
-    let x = read(kinds, payloads, a as usize);
+    let x = registers.read(a as usize);
     let y = both(table::RSHIFT, x, count(n));
     Effect::Write(d, both(table::BIT_AND, y, mask(lo, len)))
 }
 
-fn arith(k: Arith, d: u16, a: u16, z: Imm16, kinds: &[u8], payloads: &[u64]) -> Effect
-    ensures { OfRegisters (held kinds.now payloads.now) (Op.Arith k d a z) (asked result) }
+fn arith(k: Arith, d: u16, a: u16, z: Imm16, registers: Pairs<'_>) -> Effect
+    ensures { OfRegisters (held registers.entry.kinds.now registers.entry.payloads.now) (Op.Arith k d a z) (asked result) }
 {
-    let x = read(kinds, payloads, a as usize);
+    let x = registers.read(a as usize);
     Effect::Write(d, both(arith_kind(k), x, literal16(z)))
 }
 
-fn if_bool(k: Sense, a: u16, z: Disp, kinds: &[u8], payloads: &[u64]) -> Effect
-    ensures { OfRegisters (held kinds.now payloads.now) (Op.If k a z) (asked result) }
+fn if_bool(k: Sense, a: u16, z: Disp, registers: Pairs<'_>) -> Effect
+    ensures { OfRegisters (held registers.entry.kinds.now registers.entry.payloads.now) (Op.If k a z) (asked result) }
 {
-    let x = read(kinds, payloads, a as usize);
+    let x = registers.read(a as usize);
     Effect::Branch(z, if_test(k, x))
 }
 
-fn jump(k: Cmp, a: u16, b: u16, z: Disp, kinds: &[u8], payloads: &[u64]) -> Effect
-    ensures { OfRegisters (held kinds.now payloads.now) (Op.Jump k a b z) (asked result) }
+fn jump(k: Cmp, a: u16, b: u16, z: Disp, registers: Pairs<'_>) -> Effect
+    ensures { OfRegisters (held registers.entry.kinds.now registers.entry.payloads.now) (Op.Jump k a b z) (asked result) }
 {
-    let x = read(kinds, payloads, a as usize);
-    let y = read(kinds, payloads, b as usize);
+    let x = registers.read(a as usize);
+    let y = registers.read(b as usize);
     Effect::Branch(z, jump_test(k, x, y))
 }
 
-fn jump_imm(k: Cmp, a: u16, n: Imm16, z: Disp, kinds: &[u8], payloads: &[u64]) -> Effect
-    ensures { OfRegisters (held kinds.now payloads.now) (Op.JumpImm k a n z) (asked result) }
+fn jump_imm(k: Cmp, a: u16, n: Imm16, z: Disp, registers: Pairs<'_>) -> Effect
+    ensures { OfRegisters (held registers.entry.kinds.now registers.entry.payloads.now) (Op.JumpImm k a n z) (asked result) }
 {
-    let x = read(kinds, payloads, a as usize);
+    let x = registers.read(a as usize);
     Effect::Branch(z, jump_test(k, x, literal16(n)))
 }
 
@@ -270,34 +253,28 @@ fn jmp(z: Disp) -> Effect
     Effect::Branch(z, Ok(Value::Bool(true)))
 }
 
-pub fn effect_of(
-    i: Op,
-    kinds: &[u8],
-    payloads: &[u64],
-    slot_kinds: &[u8],
-    slot_payloads: &[u64],
-) -> Effect
+pub fn effect_of(i: Op, registers: Pairs<'_>, slots: Pairs<'_>) -> Effect
     ensures { asked result
-        ≡ Fx.effect_of (held kinds.now payloads.now) (held slot_kinds.now slot_payloads.now) i }
+        ≡ Fx.effect_of (held registers.entry.kinds.now registers.entry.payloads.now) (held slots.entry.kinds.now slots.entry.payloads.now) i }
 {
     match i {
         Op::Bare(k) => bare(k),
         Op::LoadImm40(d, z) => load_imm40(d, z),
-        Op::Two(k, d, a) => two(k, d, a, kinds, payloads),
-        Op::Slot(k, d, s) => slot(k, d, s, slot_kinds, slot_payloads),
-        Op::Three(k, d, a, b) => three(k, d, a, b, kinds, payloads),
-        Op::Shift(k, d, a, n) => shift(k, d, a, n, kinds, payloads),
-        Op::BitAndMask(d, a, lo, len) => bit_and_mask(d, a, lo, len, kinds, payloads),
-        Op::RshiftMask(d, a, n, lo, len) => rshift_mask(d, a, n, lo, len, kinds, payloads),
-        Op::Arith(k, d, a, z) => arith(k, d, a, z, kinds, payloads),
+        Op::Two(k, d, a) => two(k, d, a, registers),
+        Op::Slot(k, d, s) => slot(k, d, s, slots),
+        Op::Three(k, d, a, b) => three(k, d, a, b, registers),
+        Op::Shift(k, d, a, n) => shift(k, d, a, n, registers),
+        Op::BitAndMask(d, a, lo, len) => bit_and_mask(d, a, lo, len, registers),
+        Op::RshiftMask(d, a, n, lo, len) => rshift_mask(d, a, n, lo, len, registers),
+        Op::Arith(k, d, a, z) => arith(k, d, a, z, registers),
         Op::ClosNew(_, _, _) => Effect::Halt(Fault::NotRun),
         Op::ClosSet(_, _, _) => Effect::Halt(Fault::NotRun),
         Op::ClosGet(_, _) => Effect::Halt(Fault::NotRun),
         Op::One(_, _) => Effect::Halt(Fault::NotRun),
         Op::Wide(_, _, _, _) => Effect::Halt(Fault::NotRun),
-        Op::If(k, a, z) => if_bool(k, a, z, kinds, payloads),
-        Op::Jump(k, a, b, z) => jump(k, a, b, z, kinds, payloads),
-        Op::JumpImm(k, a, n, z) => jump_imm(k, a, n, z, kinds, payloads),
+        Op::If(k, a, z) => if_bool(k, a, z, registers),
+        Op::Jump(k, a, b, z) => jump(k, a, b, z, registers),
+        Op::JumpImm(k, a, n, z) => jump_imm(k, a, n, z, registers),
         Op::Jmp(z) => jmp(z),
         Op::Call(_, _, _, _) => Effect::Halt(Fault::NotRun),
         Op::CallHost(_, _, _) => Effect::Halt(Fault::NotRun),

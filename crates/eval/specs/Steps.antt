@@ -1,12 +1,11 @@
--- Plumbing: what the code makes of a lent pair, of a leaf and of the answers of a node's children. What a tree means stands in Eval.
+-- Plumbing: what the code makes of a leaf and of the answers of a node's children. What a tree means stands in Eval.
 use Rattle.std.specs.Prelude.{ℕ, ◌≡◌, true, false, cond, List, [], ◌∷◌, eqb, length, get_or}
 use Rattle.std.specs.Int.{w64}
 use Rattle.std.proofs.Common.{to_z}
-use Rattle.faults.specs.Numbers.{ill_formed}
-use Rattle.value.specs.Value.{Datum, nil, bool, int, float, Read, well, ill, all_well}
+use Rattle.value.specs.Value.{Datum, nil, bool, int, float, all_well}
 use Rattle.ops.specs.Ops as Ops
 use Rattle.ops.specs.Not as Not
-use Rattle.value.specs.Answer.{Answer, is, fault}
+use Rattle.value.specs.Answer.{Answer, is}
 use Rattle.eval.specs.declared.next.Rule.{Rule}
 use Rattle.eval.specs.declared.next.Rule.TheVariants as R
 use Rattle.eval.specs.Apply.{on, both, test}
@@ -15,11 +14,6 @@ use Rattle.eval.specs.Apply.{on, both, test}
 pub record Lends (ks ps : List ℕ) : Type 0 where
   pub even : length ks ≡ length ps
   pub wells : all_well ks ps ≡ true
-
--- a lent pair: its value, or 29, which is not met under `Lends`
-abbrev pub pair_of : Read → Answer
-pair_of (well v) = is v
-pair_of ill = fault ill_formed
 
 -- the leaf of each kind from 0 to 5, with its payload
 abbrev pub leaves : List Datum → ℕ → List Answer

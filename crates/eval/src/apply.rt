@@ -8,34 +8,29 @@ ghost use Rattle.value.specs.Answer as OpsAnswer;
 ghost use Rattle.value.specs.Answer.{result_of};
 ghost use Rattle.eval.specs.declared.next.Rule.TheVariants.{Unary};
 ghost use Rattle.eval.specs.Apply.{both, test};
-ghost use Rattle.eval.specs.Steps.{Lends, pair_of, leaves, alone_of, joined_of};
+ghost use Rattle.eval.specs.Steps.{Lends, leaves, alone_of, joined_of};
 
 use crate::next::{Rule, test_of};
 use faults::Fault;
 use value::Value;
+use value::pairs::Pairs;
 
-// A lent pair. `evaluate` has refused every ill-formed one before; it is refused here too, so that this needs no such promise.
-fn pair(kind: u8, payload: u64) -> Result<Value, Fault>
-    ensures { result_of result ≡ pair_of (Vs.of_pair kind payload) }
+// The value of local p. `evaluate` has refused every ill-formed pair before.
+fn local(p: u64, locals: &Pairs<'_>) -> Result<Value, Fault>
+    requires p_in_bounds { p < length locals.now.kinds.now }
+    requires lends { Lends locals.now.kinds.now locals.now.payloads.now }
+    ensures { result_of result
+        ≡ OpsAnswer.is (get_or (datums locals.now.kinds.now locals.now.payloads.now) p Vs.nil) }
 {
-    value::from_pair(kind, payload).ok_or(Fault::IllFormed)
-}
-
-// The value of local p.
-fn local(p: u64, kinds: &[u8], payloads: &[u64]) -> Result<Value, Fault>
-    requires p_in_bounds { p < length kinds.now }
-    requires lends { Lends kinds.now payloads.now }
-    ensures { result_of result ≡ OpsAnswer.is (get_or (datums kinds.now payloads.now) p Vs.nil) }
-{
-    pair(kinds[p as usize], payloads[p as usize])
+    locals.read(p as usize)
 }
 
 // A literal, or the value of a local.
-pub fn leaf(k: u64, p: u64, kinds: &[u8], payloads: &[u64]) -> Result<Value, Fault>
+pub fn leaf(k: u64, p: u64, locals: &Pairs<'_>) -> Result<Value, Fault>
     requires k_bound { k ≤ 5 }
-    requires p_in_bounds { k ≡ 5 → p < length kinds.now }
-    requires lends { Lends kinds.now payloads.now }
-    ensures { result_of result ≡ get_or (leaves (datums kinds.now payloads.now) p) k (OpsAnswer.fault ill_formed) }
+    requires p_in_bounds { k ≡ 5 → p < length locals.now.kinds.now }
+    requires lends { Lends locals.now.kinds.now locals.now.payloads.now }
+    ensures { result_of result ≡ get_or (leaves (datums locals.now.kinds.now locals.now.payloads.now) p) k (OpsAnswer.fault ill_formed) }
 {
     match k {
         table::NIL => Ok(Value::Nil),
@@ -43,7 +38,7 @@ pub fn leaf(k: u64, p: u64, kinds: &[u8], payloads: &[u64]) -> Result<Value, Fau
         table::FALSE => Ok(Value::Bool(false)),
         table::INT => Ok(Value::Int(int64::sign::signed(p))),
         table::FLOAT => Ok(value::of_pattern(p)),
-        _ => local(p, kinds, payloads),
+        _ => local(p, locals),
     }
 }
 

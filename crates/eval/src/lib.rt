@@ -18,25 +18,26 @@ use crate::next::{first, next_of, rule_of};
 use faults::Fault;
 use table::{kind_at, payload_at};
 use value::Value;
-use value::pairs::{all_well, shorter};
+use value::pairs::Pairs;
 
-// The answer of the tree at node i on the locals lent. Two calls of itself are all that it has, so that a level takes little of the stack.
-fn eval_node(nodes: &[u64], kinds: &[u8], payloads: &[u64], i: usize) -> Result<Value, Fault>
-    requires node { Node nodes.now (length kinds.now) i }
-    requires lends { Lends kinds.now payloads.now }
-    ensures { result_of result ≡ eval_of (datums kinds.now payloads.now) (tree nodes.now i) }
+// The answer of the tree at node i on the locals lent. Two calls of itself are all that it has, and its locals are one reference, so that a level takes
+// little of the stack.
+fn eval_node(nodes: &[u64], locals: &Pairs<'_>, i: usize) -> Result<Value, Fault>
+    requires node { Node nodes.now (length locals.now.kinds.now) i }
+    requires lends { Lends locals.now.kinds.now locals.now.payloads.now }
+    ensures { result_of result ≡ eval_of (datums locals.now.kinds.now locals.now.payloads.now) (tree nodes.now i) }
 {
     let k = kind_at(nodes, i);
     if k <= table::REF {
-        return leaf(k, payload_at(nodes, i), kinds, payloads);
+        return leaf(k, payload_at(nodes, i), locals);
     }
     let r = rule_of(k);
-    let a = eval_node(nodes, kinds, payloads, first(nodes, i, r));
+    let a = eval_node(nodes, locals, first(nodes, i, r));
     let n = next_of(nodes, i, r, a);
     let Some(j) = n else {
         return alone(r, k, a);
     };
-    let b = eval_node(nodes, kinds, payloads, j);
+    let b = eval_node(nodes, locals, j);
     joined(r, k, a, b)
 }
 
@@ -53,13 +54,15 @@ pub fn evaluate(
 {
     table::check::check(nodes, params, locals, None)?;
     let base = (params + locals) as usize;
-    if shorter(kinds.len(), payloads.len()) < base {
+    if (Pairs { kinds, payloads }).len() < base {
         return Err(Fault::OutOfRange);
     }
-    let ks = &kinds[..base];
-    let ps = &payloads[..base];
-    if all_well(ks, ps) {
-        return eval_node(nodes, ks, ps, nodes.len() / 4 - 1);
+    let lent = Pairs {
+        kinds: &kinds[..base],
+        payloads: &payloads[..base],
+    };
+    if lent.all_well() {
+        return eval_node(nodes, &lent, nodes.len() / 4 - 1);
     }
     Err(Fault::IllFormed)
 }

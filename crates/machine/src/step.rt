@@ -1,6 +1,7 @@
 // One step: the word at a position is decoded, and its effect carried out.
 ghost use Rattle.std.specs.Prelude.{◌≡◌, ◌<◌, length};
 ghost use Rattle.value.specs.Answer.{result_of};
+ghost use Rattle.value.specs.Refs.{SameSlices};
 ghost use Rattle.effect.specs.Effect.{size, held};
 ghost use Rattle.effect.specs.Forms.{asked};
 ghost use Rattle.machine.specs.Step as St;
@@ -8,10 +9,11 @@ ghost use Rattle.machine.specs.Step.{after, lent};
 ghost use Rattle.machine.specs.Parts.{told_of};
 
 use decode::decode;
-use effect::{Effect, effect_of, room};
+use effect::{Effect, effect_of};
 use faults::Fault;
 use insns::bits::magnitude;
 use insns::op::Disp;
+use value::pairs::{Pairs, PairsMut};
 use value::{Value, kind_of, payload_of};
 
 // A taken branch. `magnitude` of a negative z is -z - 1, so that its target at + 1 + z is at - m, and no sum here can wrap.
@@ -50,36 +52,33 @@ fn put(
     at: usize,
     d: usize,
     a: Result<Value, Fault>,
-    kinds: &mut [u8],
-    payloads: &mut [u64],
+    registers: &mut PairsMut<'_>,
 ) -> Result<usize, Fault>
     requires { at < len }
-    ensures { after result kinds.new payloads.new
-        ≡ lent kinds.old payloads.old (St.write_of (size kinds.old payloads.old) at d (result_of a)) }
+    ensures value { after result registers.new.kinds.now registers.new.payloads.now
+        ≡ lent registers.old.kinds.now registers.old.payloads.now
+        (St.write_of (size registers.old.kinds.now registers.old.payloads.now) at d (result_of a)) }
+    ensures same_slices { SameSlices registers.old registers.new }
 {
-    if room(kinds, payloads) <= d {
+    if registers.shared().len() <= d {
         return Err(Fault::OutOfRange);
     }
     let v = a?;
-    kinds[d] = kind_of(v);
-    payloads[d] = payload_of(v);
+    registers.kinds[d] = kind_of(v);
+    registers.payloads[d] = payload_of(v);
     Ok(at + 1)
 }
 
 // An effect carried out.
-fn settle(
-    len: usize,
-    at: usize,
-    e: Effect,
-    kinds: &mut [u8],
-    payloads: &mut [u64],
-) -> Result<usize, Fault>
+fn settle(len: usize, at: usize, e: Effect, registers: &mut PairsMut<'_>) -> Result<usize, Fault>
     requires { at < len }
-    ensures { after result kinds.new payloads.new
-        ≡ lent kinds.old payloads.old (St.settle_of len (size kinds.old payloads.old) at (asked e)) }
+    ensures value { after result registers.new.kinds.now registers.new.payloads.now
+        ≡ lent registers.old.kinds.now registers.old.payloads.now
+        (St.settle_of len (size registers.old.kinds.now registers.old.payloads.now) at (asked e)) }
+    ensures same_slices { SameSlices registers.old registers.new }
 {
     match e {
-        Effect::Write(d, a) => put(len, at, d as usize, a, kinds, payloads),
+        Effect::Write(d, a) => put(len, at, d as usize, a, registers),
         Effect::Branch(z, a) => branch(len, at, z, a),
         Effect::Next => Ok(at + 1),
         Effect::Halt(n) => Err(n),
@@ -88,20 +87,15 @@ fn settle(
 
 // What the word asks for: 10 if it does not decode.
 #[tactic(auto, unfolding(crate::specs::Step::word_effect))]
-fn word_effect(
-    w: u64,
-    kinds: &[u8],
-    payloads: &[u64],
-    slot_kinds: &[u8],
-    slot_payloads: &[u64],
-) -> Effect
+fn word_effect(w: u64, registers: Pairs<'_>, slots: Pairs<'_>) -> Effect
     ensures { asked result
-        ≡ St.word_effect (held kinds.now payloads.now) (held slot_kinds.now slot_payloads.now) w }
+        ≡ St.word_effect (held registers.entry.kinds.now registers.entry.payloads.now)
+        (held slots.entry.kinds.now slots.entry.payloads.now) w }
 {
     let Some(i) = decode(w) else {
         return Effect::Halt(Fault::Undecoded);
     };
-    effect_of(i, kinds, payloads, slot_kinds, slot_payloads)
+    effect_of(i, registers, slots)
 }
 
 // The step at a position of the code. Nothing is written before the word is decoded, its operands read and its faults known.
@@ -109,15 +103,15 @@ fn word_effect(
 pub fn step(
     words: &[u64],
     at: usize,
-    kinds: &mut [u8],
-    payloads: &mut [u64],
-    slot_kinds: &[u8],
-    slot_payloads: &[u64],
+    registers: &mut PairsMut<'_>,
+    slots: Pairs<'_>,
 ) -> Result<usize, Fault>
     requires { at < length words.now }
-    ensures { after result kinds.new payloads.new
-        ≡ St.step_of words.now slot_kinds.now slot_payloads.now at kinds.old payloads.old }
+    ensures value { after result registers.new.kinds.now registers.new.payloads.now
+        ≡ St.step_of words.now slots.entry.kinds.now slots.entry.payloads.now at
+        registers.old.kinds.now registers.old.payloads.now }
+    ensures same_slices { SameSlices registers.old registers.new }
 {
-    let e = word_effect(words[at], kinds, payloads, slot_kinds, slot_payloads);
-    settle(words.len(), at, e, kinds, payloads)
+    let e = word_effect(words[at], registers.shared(), slots);
+    settle(words.len(), at, e, registers)
 }

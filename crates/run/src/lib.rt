@@ -2,6 +2,7 @@
 #![tactic(auto)]
 
 ghost use Rattle.std.specs.Prelude.{◌≡◌, length, ◌<◌, Err};
+ghost use Rattle.value.specs.Refs.{SameSlices};
 ghost use Rattle.fast.specs.Plan.{Within};
 ghost use Rattle.machine.specs.Step.{after, step_of};
 ghost use Rattle.machine.specs.Run.{out, ran, run_from, run_of, run_part_of};
@@ -10,7 +11,7 @@ use fast::step::quick_step;
 use faults::Fault;
 use machine::run::Ran;
 use machine::step::step;
-use value::pairs::all_well;
+use value::pairs::{Pairs, PairsMut};
 
 // A run that stops, with the steps that it took and where.
 fn stopped(fault: Fault, steps: u64, position: usize) -> Ran
@@ -28,30 +29,30 @@ fn next(
     words: &[u64],
     at: usize,
     room: usize,
-    kinds: &mut [u8],
-    payloads: &mut [u64],
-    slots: usize,
-    slot_kinds: &[u8],
-    slot_payloads: &[u64],
+    registers: &mut PairsMut<'_>,
+    slot_room: usize,
+    slots: Pairs<'_>,
 ) -> Result<usize, Fault>
     requires at_in_bounds { at < length words.now }
-    requires within { Within 16 room kinds.old payloads.old }
-    requires within_2 { Within 32 slots slot_kinds.now slot_payloads.now }
-    ensures { after result kinds.new payloads.new
-        ≡ step_of words.now slot_kinds.now slot_payloads.now at kinds.old payloads.old }
+    requires within { Within 16 room registers.old.kinds.now registers.old.payloads.now }
+    requires within_2 { Within 32 slot_room slots.kinds.now slots.payloads.now }
+    ensures value { after result registers.new.kinds.now registers.new.payloads.now
+        ≡ step_of words.now slots.entry.kinds.now slots.entry.payloads.now at
+        registers.old.kinds.now registers.old.payloads.now }
+    ensures same_slices { SameSlices registers.old registers.new }
 {
     match quick_step(
         words,
         at,
         room,
-        kinds,
-        payloads,
-        slots,
-        slot_kinds,
-        slot_payloads,
+        registers.kinds,
+        registers.payloads,
+        slot_room,
+        slots.kinds,
+        slots.payloads,
     ) {
         Some(p) => Ok(p),
-        None => step(words, at, kinds, payloads, slot_kinds, slot_payloads),
+        None => step(words, at, registers, slots),
     }
 }
 
@@ -59,35 +60,25 @@ fn next(
 fn run_from(
     words: &[u64],
     start: usize,
-    kinds: &mut [u8],
-    payloads: &mut [u64],
-    slot_kinds: &[u8],
-    slot_payloads: &[u64],
+    registers: &mut PairsMut<'_>,
+    slots: Pairs<'_>,
     budget: u64,
 ) -> Ran
-    ensures { out result kinds.new payloads.new
-        ≡ run_from words.now slot_kinds.now slot_payloads.now budget 0 start
-        kinds.old payloads.old }
+    ensures value { out result registers.new.kinds.now registers.new.payloads.now
+        ≡ run_from words.now slots.entry.kinds.now slots.entry.payloads.now budget 0 start
+        registers.old.kinds.now registers.old.payloads.now }
+    ensures same_slices { SameSlices registers.old registers.new }
 {
     // The registers and slots that the quick step looks at: any smaller numbers would do, at the cost of speed alone.
-    let room = kinds.len().min(payloads.len()).min(0x1_0000);
-    let slots = slot_kinds.len().min(slot_payloads.len()).min(0x1_0000_0000);
+    let room = registers.shared().len().min(0x1_0000);
+    let slot_room = slots.len().min(0x1_0000_0000);
     let mut at = start;
     let mut steps = 0;
     while at < words.len() {
         if steps == budget {
             return stopped(Fault::BudgetSpent, steps, at);
         }
-        match next(
-            words,
-            at,
-            room,
-            kinds,
-            payloads,
-            slots,
-            slot_kinds,
-            slot_payloads,
-        ) {
+        match next(words, at, room, registers, slot_room, slots) {
             Ok(p) => at = p,
             Err(fault) => return stopped(fault, steps, at),
         }
@@ -118,18 +109,15 @@ pub fn run(
     if words.len() < start {
         return stopped(Fault::OutOfRange, 0, start);
     }
-    if !all_well(kinds, payloads) || !all_well(slot_kinds, slot_payloads) {
+    let mut registers = PairsMut { kinds, payloads };
+    let slots = Pairs {
+        kinds: slot_kinds,
+        payloads: slot_payloads,
+    };
+    if !registers.shared().all_well() || !slots.all_well() {
         return stopped(Fault::IllFormed, 0, 0);
     }
-    run_from(
-        words,
-        start,
-        kinds,
-        payloads,
-        slot_kinds,
-        slot_payloads,
-        budget,
-    )
+    run_from(words, start, &mut registers, slots, budget)
 }
 
 // Runs a part of a store: the runner is lent only the words from its entry to its end, so that no jump leaves the part. Its position

@@ -1,14 +1,14 @@
 -- Tests, operators and leaves, over plain values.
 use Rattle.std.specs.Prelude.{Result, Ok, Err, IsErrAnd}
 use Rattle.faults.specs.declared.Fault.{Fault}
-use mathlib.Core.Path.{◌≡◌, refl, sym, ◌∙◌, ap}
+use mathlib.Core.Path.{◌≡◌, refl, ◌∙◌, ap}
 use mathlib.Core.Bool.{Bool, true, false, cond}
 use mathlib.Core.List.{List}
 use Prim.Native.Nat.{ℕ, ◌<◌}
 use native.Mathlib.Omega.{arith}
 use lib.Dec.{eqb}
 use lib.ListN.{length, get_or}
-use borrow.Author.Tests.{eq-eqb, ne_eqb}
+use borrow.Author.Tests.{eq-eqb, ne_eqb, lt-ltb}
 use Rattle.value.specs.Value.{nil, bool, int, float, meaning, of_pair, datums}
 use Rattle.value.proofs.PairLaws.{well-at, well-is, datum-at}
 use Rattle.value.specs.declared.Value.{Value}
@@ -17,7 +17,8 @@ use Rattle.ops.specs.Not as Not
 use Rattle.value.specs.Answer.{Answer, is, fault, result_of}
 use Rattle.eval.specs.Next.{truth_of}
 use Rattle.eval.specs.Apply.{on, both, whether, test}
-use Rattle.eval.specs.Steps.{Lends, pair_of}
+use Rattle.value.specs.Pairs.{size, held}
+use Rattle.eval.specs.Steps.{Lends}
 
 -- ---- a fault is what a `?` returns
 
@@ -83,12 +84,9 @@ module _ (k : ℕ) {x : Result Value Fault} where
 
 -- a local is its value
 module _ {ks ps : List ℕ} (l : Lends ks ps) {p : ℕ} (h : p < length ks) where
-  pub in_payloads : p < length ps
-  in_payloads = omega (arith, l.even)
-
-  pub local-is : {r : Answer} → r ≡ pair_of (of_pair (get_or ks p 0) (get_or ps p 0)) → r ≡ is (get_or (datums ks ps) p nil)
+  pub local-is : {r : Answer} → r ≡ held ks ps p → r ≡ is (get_or (datums ks ps) p nil)
+  unfolding held
   local-is q =
-      let m = in_payloads in
-      q ∙ ap pair_of (well-is (of_pair (get_or ks p 0) (get_or ps p 0)) (well-at ks ps p l.wells h m)) ∙ ap is (sym (datum-at ks ps p h m))
-
-pub ruleset locals = (in_payloads, local-is)
+      let m : p < length ps = omega (arith, l.even) in
+      let n : p < size ks ps = omega arith in
+      rw (datum-at ks ps p h m) (rw (lt-ltb p (size ks ps) n, well-is (of_pair (get_or ks p 0) (get_or ps p 0)) (well-at ks ps p l.wells h m)) at q)
