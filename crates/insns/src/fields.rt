@@ -40,11 +40,15 @@ pub fn make(op: u8, fields: &[(u64, u64)]) -> Option<Insn>
     requires { sizes fields.now ≤ 2 ^ 56 }
     ensures { result ≡ make op fields.now }
 {
-    if !fields.iter().all(|&(size, bits)| bits < size) {
-        return None;
+    for i in 0..fields.len() {
+        let (size, bits) = fields[i];
+        if size <= bits {
+            return None;
+        }
     }
     let mut above = 0;
-    for &(size, bits) in fields.iter().rev() {
+    for i in (0..fields.len()).rev() {
+        let (size, bits) = fields[i];
         above = bits + size * above;
     }
     Some(Insn {

@@ -1,10 +1,11 @@
--- `fields::make` meets its contract: what is packed so far stands above the fields that are left.
+-- `fields::make` meets its contract: the fields from i on decide as all do; then what is packed is those from i on.
 use mathlib.Core.Path.{◌≡◌}
-use mathlib.Core.Bool.{true}
+use lib.ListN.{drop}
 use Rattle.insns.specs.Fields.{pack, all_fit}
-use Rattle.insns.proofs.Packing.{over}
 use Rattle.insns.proofs.fields.make.Given as goal
 
-abbrev pub invariant-loop-size : goal.invariant-loop-size
-invariant-loop-size l =
-    let left = l.size-iterator.iter.rest.now in (over left l.above ≡ pack l.fields) × (all_fit left ≡ true)
+abbrev pub invariant-loop-i : goal.invariant-loop-i
+invariant-loop-i l = all_fit (drop l.i l.fields) ≡ all_fit l.fields
+
+abbrev pub invariant-loop-i-2 : goal.invariant-loop-i-2
+invariant-loop-i-2 l = l.above ≡ pack (drop l.i l.fields)
