@@ -11,13 +11,16 @@ fail() { echo "names: $*"; exit 1; }
 consts() { sed -n "s/^ *pub const \([A-Z0-9_]*\): [a-z0-9]* = \([0-9]*\);/$2\1 \2/p" "$1"; }
 # NAME VALUE of each variant that has a number, as OutOfRange = 26 is OUT_OF_RANGE 26
 variants() { sed -n 's/^    \([A-Z][A-Za-z]*\) = \([0-9]*\),$/\1 \2/p' "$1" | sed 's/\([a-z]\)\([A-Z]\)/\1_\2/g' | tr a-z A-Z; }
+# DONE, the number of an answer without a fault
+no_fault() { sed -n '/^pub fn number_of/,/^}/s/^ *Ok(()) => \([0-9]*\),$/DONE \1/p' "$1"; }
 {
     consts crates/vosemaqe/src/lib.rt ''
     consts crates/faults/src/lib.rt ''
     variants crates/faults/src/lib.rt
+    no_fault crates/faults/src/lib.rt
     consts crates/table/src/lib.rt NODE_
     consts crates/insns/src/forms.rt OP_
-    printf '%s\n' 'DONE 0' 'NIL 0' 'BOOL 1' 'INT 2' 'FLOAT 3' 'NODE_WORDS 4'
+    printf '%s\n' 'NIL 0' 'BOOL 1' 'INT 2' 'FLOAT 3' 'NODE_WORDS 4'
 } | sort >"$out/names"
 {
     grep -o 'VOSEMAQE_[A-Z0-9_]* = [0-9]*' include/vosemaqe.h | sed 's/^VOSEMAQE_//; s/ = / /'

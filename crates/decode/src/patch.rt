@@ -121,8 +121,8 @@ pub fn patch_jumps(words: &mut [u64], jumps: &[u64], target: u64) -> Result<(), 
     ensures { (result ≡ (patch_all words.old jumps.now target).answer)
         × (words.new ≡ (patch_all words.old jumps.now target).words) }
 {
-    for &jump in jumps {
-        patch(words, jump as usize, target)?;
+    for i in 0..jumps.len() {
+        patch(words, jumps[i] as usize, target)?;
     }
     Ok(())
 }

@@ -1,7 +1,7 @@
 -- What a call leaves in the caller's result cells: the number of the answer, and 0 in every cell wherever the number is not 0.
 use Rattle.std.specs.Prelude.{◌≡◌, List, ℕ, zero, suc, min, length, Option, Some, None, Result, Ok, Err}
 use Rattle.faults.specs.declared.Fault.{Fault}
-use Rattle.faults.specs.Numbers.{undecoded, no_fit, number, number_of}
+use Rattle.faults.specs.Numbers.{number, number_of}
 use Rattle.value.specs.Value.{kind_of, payload_of}
 use Rattle.value.specs.Answer.{Answer}
 use Rattle.emit.specs.State.{Res, State}
@@ -9,8 +9,10 @@ use Rattle.compile.specs.Compile.{compile_of}
 use Rattle.compile.specs.Buffers.{answered, padded, words_of, kinds_of, payloads_of}
 use Rattle.compile.specs.declared.buffers.Compiled.{Compiled}
 use Rattle.machine.specs.Run.{Out, out}
+use Rattle.insns.specs.Fields.{made_number}
 use Rattle.insns.specs.declared.Insn.{Insn}
 use Rattle.insns.specs.declared.op.Op.{Op}
+use Rattle.decode.specs.Decode.{decoded_number}
 use Rattle.operands.specs.OfOp.{plain, plain_op}
 use Rattle.operands.specs.declared.of_op.PlainOp.{PlainOp}
 use Rattle.vosemaqe.specs.declared.results.Report.{Report}
@@ -64,18 +66,24 @@ ended_of (out r ks ps) = ended (number_of r.end) r.steps r.position ks ps
 
 -- ---- decoding: number, opcode, five operands
 
+abbrev pub plain_in : Option Op → PlainOp
+plain_in (Some i) = plain_op i
+plain_in None = plain 0 0 0 0 0 0
+
 abbrev pub operands : ℕ → PlainOp → Operands
 operands n p = record { number = n; plain = p }
 
 abbrev pub operands_of : Option Op → Operands
-operands_of (Some i) = operands 0 (plain_op i)
-operands_of None = operands (number undecoded) (plain 0 0 0 0 0 0)
+operands_of d = operands (decoded_number d) (plain_in d)
 
 -- ---- encoding: number, word
+
+abbrev pub word_in : Option Insn → ℕ
+word_in (Some w) = w.bits
+word_in None = 0
 
 abbrev pub encoded : ℕ → ℕ → Encoded
 encoded n w = record { number = n; word = w }
 
 abbrev pub encoded_of : Option Insn → Encoded
-encoded_of (Some w) = encoded 0 w.bits
-encoded_of None = encoded (number no_fit) 0
+encoded_of m = encoded (made_number m) (word_in m)

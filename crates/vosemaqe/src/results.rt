@@ -95,13 +95,14 @@ impl From<Option<Op>> for Operands {
     ghost from_gives = { λ d r. r ≡ operands_of d };
 
     fn from(d: Option<Op>) -> Operands {
+        let number = decode::number_of(d);
         match d {
             Some(i) => Operands {
-                number: 0,
+                number,
                 plain: plain_op(i),
             },
             None => Operands {
-                number: Fault::Undecoded.number(),
+                number,
                 plain: PlainOp {
                     opcode: 0,
                     a: 0,
@@ -119,13 +120,14 @@ impl From<Option<Insn>> for Encoded {
     ghost from_gives = { λ m r. r ≡ encoded_of m };
 
     fn from(m: Option<Insn>) -> Encoded {
+        let number = insns::number_of(m);
         match m {
             Some(w) => Encoded {
-                number: 0,
+                number,
                 word: w.bits,
             },
             None => Encoded {
-                number: Fault::NoFit.number(),
+                number,
                 word: 0,
             },
         }

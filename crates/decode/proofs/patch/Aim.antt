@@ -1,6 +1,6 @@
 -- Displacements, and words patched: one of a list, and one after the other.
 use Rattle.std.specs.Prelude.{Option, Some, None, Result, Ok, Err}
-use Rattle.faults.specs.Numbers.{no_word}
+use Rattle.faults.specs.Numbers as Numbers
 use Rattle.faults.specs.declared.Fault.{Fault}
 use Rattle.insns.specs.declared.op.Disp.{Disp}
 use mathlib.Core.Path.{◌≡◌, sym, ap, ◌∙◌}
@@ -91,13 +91,13 @@ module _ (at t : ℕ) (a : at < 2305843009213693952) (l : t < 461168601842738790
 
 -- ---- a word of a list is patched
 
-pub past-words : (ws : List ℕ) (at t : ℕ) → length ws ≤ at → record { answer = (Err no_word); words = ws } ≡ patch_of ws at t
+pub no_word : (ws : List ℕ) (at t : ℕ) → length ws ≤ at → record { answer = (Err Numbers.no_word); words = ws } ≡ patch_of ws at t
 unfolding patch_of
-past-words ws at t h = ap (λ (b : Bool). cond b (put_aimed (aim_word (get_or ws at 0) at t) ws at) (record { answer = (Err no_word); words = ws })) (sym (le-ltb at (length ws) h))
+no_word ws at t h = ap (λ (b : Bool). cond b (put_aimed (aim_word (get_or ws at 0) at t) ws at) (record { answer = (Err Numbers.no_word); words = ws })) (sym (le-ltb at (length ws) h))
 
 pub a_word : (ws : List ℕ) (at t : ℕ) {a b : Result ℕ Fault} → at < length ws → a ≡ aim_word (get_or ws at 0) at t → a ≡ b → put_aimed b ws at ≡ patch_of ws at t
 unfolding patch_of
-a_word ws at t {a} {b} h q k = ap (λ (x : Result ℕ Fault). put_aimed x ws at) (sym k ∙ q) ∙ ap (λ (x : Bool). cond x (put_aimed (aim_word (get_or ws at 0) at t) ws at) (record { answer = (Err no_word); words = ws })) (sym (lt-ltb at (length ws) h))
+a_word ws at t {a} {b} h q k = ap (λ (x : Result ℕ Fault). put_aimed x ws at) (sym k ∙ q) ∙ ap (λ (x : Bool). cond x (put_aimed (aim_word (get_or ws at 0) at t) ws at) (record { answer = (Err Numbers.no_word); words = ws })) (sym (lt-ltb at (length ws) h))
 
 -- an answer and the words that are left, from the one equation
 pub both : {p q : Patching} → p ≡ q → (p.answer ≡ q.answer) × (p.words ≡ q.words)

@@ -4,5 +4,5 @@ use lib.ListN.{drop}
 use Rattle.decode.specs.Patch.{patch_all}
 use Rattle.decode.proofs.patch.patch_jumps.Given as goal
 
-abbrev pub invariant-loop-jump : goal.invariant-loop-jump
-invariant-loop-jump l = patch_all l.words (drop l.jump-index l.jumps) l.target ≡ patch_all l.initial.words l.jumps l.target
+abbrev pub invariant-loop-i : goal.invariant-loop-i
+invariant-loop-i l = patch_all l.words (drop l.i l.jumps) l.target ≡ patch_all l.initial.words l.jumps l.target
