@@ -59,19 +59,17 @@ module=target/port/module.ll
 "$clang" -Wno-override-module -S -emit-llvm -O0 -Xclang -disable-llvm-passes -x ir "$work/module.bc" -o "$module"
 # What is said of x86-64 alone goes: triple, layout, processor, stack probes. Unwind tables go too: nothing here throws. A returned byte is zero-extended, as
 # callers on Arm and RISC-V may rely on.
-# An Option of a reference lies in memory as on x86-64, a byte and eight bytes behind it the reference, and the module reads it whole, as a struct. Where a
-# reference has four bytes that struct has it four bytes behind the byte. So the two are read one by one.
-sed -E -e '/^target /d' -e 's/ "target-cpu"="[^"]*"//; s/ "probe-stack"="[^"]*"//; s/ "stack-probe-size"="[^"]*"//; s/ uwtable//' \
-    -e 's/^define noundef i8 @vosemaqe_/define noundef zeroext i8 @vosemaqe_/' \
-    -e 's/^  (%[a-z0-9]+) = load \{ i8, ptr \}, ptr (%[a-z0-9]+), align 8$/  \1.tag = load i8, ptr \2, align 8\n  \1.at = getelementptr i8, ptr \2, i64 8\n  \1.to = load ptr, ptr \1.at, align 8\n  \1.half = insertvalue { i8, ptr } poison, i8 \1.tag, 0\n  \1 = insertvalue { i8, ptr } \1.half, ptr \1.to, 1/' \
-    "$module" >"$work/module.ll"
+sed -e '/^target /d' -e 's/ "target-cpu"="[^"]*"//; s/ "probe-stack"="[^"]*"//; s/ "stack-probe-size"="[^"]*"//; s/ uwtable//' \
+    -e 's/^define noundef i8 @vosemaqe_/define noundef zeroext i8 @vosemaqe_/' "$module" >"$work/module.ll"
 # a kit that writes its module otherwise than this reads it must not pass in silence
 exported() { sed -n "s/^define $1 @\(vosemaqe_[a-z_]*\)(.*/\1/p" "$work/module.ll" | sort; }
 declared() { sed -n "s/^$1 \(vosemaqe_[a-z_]*\)(.*/\1/p" include/vosemaqe.h | sort; }
 [ "$(exported '[^@]*')" = "$(declared '[a-z0-9_]*')" ] || fail "the module and include/vosemaqe.h name other functions"
 [ "$(exported 'noundef zeroext i8')" = "$(declared uint8_t)" ] || fail "a returned byte of the module is not zero-extended"
-# a struct in memory has a reference in front, or none
-if grep -qE '(load|store) \{ [^}]*, ptr' "$work/module.ll"; then fail "the module reads a struct whose references lie otherwise on another processor"; fi
+# A struct in memory has no reference in it: the module has the places of its parts from references of eight bytes.
+if grep -nE '^%[^ ]+ = type .*ptr|(load|store|alloca|getelementptr)( [a-z]+)* [][0-9x {<i,]*\{[^}]*ptr' "$work/module.ll" >&2; then
+    fail "the module has a struct with a reference in memory, which lies otherwise on another processor"
+fi
 if grep -q -e '^target ' -e '"target-' -e '"probe-stack"' -e '"stack-probe' "$work/module.ll"; then fail "the module still names a processor"; fi
 
 # ---- the archives
