@@ -1,6 +1,6 @@
 // Branches and patching. The position of a branch is listed until its target is known; the lists stand in one lent slice, and a place is free again once
 // its jump is patched.
-ghost use Rattle.std.specs.Prelude.{◌≡◌, ◌+◌, ◌≤◌, length, take};
+ghost use Rattle.std.specs.Prelude.{◌≡◌, ◌+◌, ◌≤◌, length, take, drop};
 ghost use Rattle.insns.specs.Insns.{made_of};
 ghost use Rattle.emit.specs.State.{emit_d};
 ghost use Rattle.emit.specs.Read.{Steps, After};
@@ -97,6 +97,16 @@ fn patch_jumps(code: &mut [u64], jumps: &[u64], d: u16, st: St) -> Result<(u16, 
     Ok((d, st))
 }
 
+// The k jumps from n on, moved to the list's front: the n before them are patched, and their places are used again.
+fn slide(jumps: &mut [u64], n: usize, k: usize)
+    requires { n + k ≤ length jumps.old }
+    ensures { take k jumps.new ≡ take k (drop n jumps.old) }
+{
+    for j in 0..k {
+        jumps[j] = jumps[n + j];
+    }
+}
+
 // Both sides of And or Or are made, the left one with n jumps. In one sense of the test they go where the right side's go (`out`); in the other they only
 // skip the right side, which is what the patch is for; the right side's k jumps are then moved to the list's front.
 pub fn join(
@@ -114,7 +124,7 @@ pub fn join(
         return Ok((n + k, s));
     }
     let (_, t) = patch_jumps(code, &jumps[..n], 0, s)?;
-    jumps.copy_within(n..n + k, 0);
+    slide(jumps, n, k);
     Ok((k, t))
 }
 

@@ -5,9 +5,10 @@ use Rattle.insns.specs.declared.Insn.{Insn}
 use mathlib.Core.Path.{◌≡◌, refl, sym, ap, ◌∙◌}
 use mathlib.Core.Bool.{Bool, true, false}
 use mathlib.Core.List.{List, [], ◌∷◌, ◌++◌}
-use Prim.Native.Nat.{ℕ, ◌+◌, ◌<◌, ◌≤◌}
+use Prim.Native.Nat.{ℕ, suc, ◌+◌, ◌<◌, ◌≤◌}
+use native.Mathlib.Numerals.{add-one}
 use native.Mathlib.Omega.{arith}
-use lib.ListN.{length, take, drop, set, replicate, length-set, length-drop, length-append}
+use lib.ListN.{length, take, drop, set, get_or, replicate, length-set, length-drop, length-append}
 use lib.Seq.{length-take-le, take-suc, take-suc-set, take-add, take_at, get_or-drop, drop-cons, drop-set-lt, drop-drop}
 use borrow.Author.Tests.{lt-ltb}
 use Rattle.faults.specs.Numbers.{no_room}
@@ -156,7 +157,28 @@ module _ {c c1 : List ℕ} {st : St} {x : Result (ℕ × St) Fault} (js : List �
 
 pub ruleset chains = (counted-got, came, turn-go, true-go, bool-go)
 
--- ---- the list of jumps: both sides of And or Or
+-- ---- the list of jumps
+
+-- one more jump moved to the front: j are there, and nothing from n + j on has changed
+module _ (old now : List ℕ) (n j : ℕ) (room : n + j < length old) (same : length now ≡ length old)
+    (front : take j now ≡ take j (drop n old)) (rest : drop (n + j) now ≡ drop (n + j) old) where
+  pub slide-front : take (j + 1) (set now j (get_or now (n + j) 0)) ≡ take (j + 1) (drop n old)
+  slide-front =
+      let in-now : j < length now = omega arith in
+      let in-old : j < length (drop n old) = simp length-drop (omega arith) in
+      let in-now' : n + j < length now = omega arith in
+      let heads : ◌≡◌ {A = List ℕ} (get_or now (n + j) 0 ∷ drop (suc (n + j)) now) (get_or old (n + j) 0 ∷ drop (suc (n + j)) old) =
+      sym (drop-cons now (n + j) 0 in-now') ∙ rest ∙ drop-cons old (n + j) 0 room in
+      let at-now : get_or now (n + j) 0 ≡ get_or old (n + j) 0 = cc heads in
+      rw (add-one j, take-suc-set now j _ in-now, take-suc (drop n old) j 0 in-old, get_or-drop n old j 0, front, at-now)
+
+  pub slide-rest : drop (n + (j + 1)) (set now j (get_or now (n + j) 0)) ≡ drop (n + (j + 1)) old
+  slide-rest =
+      let past : j < n + (j + 1) = omega arith in
+      let split : n + (j + 1) ≡ n + j + 1 = omega arith in
+      rw (drop-set-lt (n + (j + 1)) now j _ past, split, ← drop-drop 1 (n + j) now, ← drop-drop 1 (n + j) old, rest)
+
+-- both sides of And or Or
 
 module _ {c js : List ℕ} {n m : ℕ} {y : Result (ℕ × St) Fault} {s : St} (ready : Joinable c js n y) (e : y ≡ Ok (m, s)) where
   pub join-room : n + m ≤ length js
