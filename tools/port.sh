@@ -67,7 +67,7 @@ declared() { sed -n "s/^$1 \(vosemaqe_[a-z_]*\)(.*/\1/p" include/vosemaqe.h | so
 [ "$(exported '[^@]*')" = "$(declared '[a-z0-9_]*')" ] || fail "the module and include/vosemaqe.h name other functions"
 [ "$(exported 'noundef zeroext i8')" = "$(declared uint8_t)" ] || fail "a returned byte of the module is not zero-extended"
 # A struct in memory has no reference in it: the module has the places of its parts from references of eight bytes.
-if grep -nE '^%[^ ]+ = type .*ptr|(load|store|alloca|getelementptr)( [a-z]+)* [][0-9x {<i,]*\{[^}]*ptr' "$work/module.ll" >&2; then
+if grep -nE '^%[^ ]+ = type .*ptr|^  (%[^ ]+ = )?(load|store|alloca|getelementptr) [^%@]*\{[^%@]*ptr[^%@]*\}' "$work/module.ll" >&2; then
     fail "the module has a struct with a reference in memory, which lies otherwise on another processor"
 fi
 if grep -q -e '^target ' -e '"target-' -e '"probe-stack"' -e '"stack-probe' "$work/module.ll"; then fail "the module still names a processor"; fi
