@@ -2,6 +2,8 @@
 // It reads the files that are named, and standard input for a file called -. A line of three dashes separates two expressions.
 #![tactic(auto)]
 
+ghost use Rattle.std.specs.Prelude.{◌≤◌, length, IfOk};
+
 mod gather;
 mod list;
 mod show;
@@ -13,7 +15,6 @@ use crate::show::{Outcome, show};
 use print::{say, tell};
 use reader::gather::{end_of, put_nodes, put_values};
 use reader::head::{Head, NODES};
-use replay_io::read_full;
 use std::env::{Env, FillError};
 use std::io::{Cursor, Read, Write};
 use std::rt::Files;
@@ -164,6 +165,21 @@ fn ended(
         }
         Err(e) => Ok(failed(err, name, e, t)),
     }
+}
+
+// How many bytes were read, until the buffer is full or the input ends. replay_io's promises more, but the tool rests on no crate of the tests.
+fn read_full(input: &mut impl Read, buf: &mut [u8]) -> io::Result<usize>
+    ensures { IfOk result (λ n. n ≤ length buf.new) }
+{
+    let mut done = 0;
+    while done < buf.len() {
+        let n = input.read(&mut buf[done..])?;
+        if n == 0 {
+            break;
+        }
+        done += n;
+    }
+    Ok(done)
 }
 
 fn read_text(

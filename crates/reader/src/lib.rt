@@ -13,7 +13,7 @@ ghost use Rattle.reader.specs.Line.{bare_of, plain_of, given_of, node_of, settin
 ghost use Rattle.reader.specs.Line.{word_of, kind_of, first_of, fields_line, line_of};
 
 use text::decimal::{DecimalError, float};
-use text::fields::{count, next_field, nth, place_of};
+use text::fields::{count, nth, nth_part, place_of};
 use text::numeral::{NumeralError, int, unsigned};
 use text::scan::find;
 
@@ -328,8 +328,5 @@ pub fn title_from(s: &[u8]) -> usize
     ensures { result ≤ length s.now }
 {
     let e = find(s, 0, b'#');
-    match next_field(&s[..e]) {
-        Some((_, rest)) => e - rest.len(),
-        None => e,
-    }
+    nth_part(&s[..e], 0).to
 }

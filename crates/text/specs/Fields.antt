@@ -1,5 +1,5 @@
 -- The fields of a line, and the place of a word in a list of words. A text is a list of bytes.
-use Rattle.std.specs.Prelude.{ℕ, ◌+◌, Bool, true, false, ◌&&◌, ◌||◌, cond, List, [], ◌∷◌, Option, Some, None, eqb}
+use Rattle.std.specs.Prelude.{◌≡◌, ℕ, ◌+◌, ◌-◌, ◌≤◌, Bool, true, false, ◌&&◌, ◌||◌, cond, List, [], ◌∷◌, length, take, drop, Option, Some, None, eqb}
 use Prim.Native.String.{String, [] as end, ◌∷◌ as ◌then◌}
 use Prim.Native.Char.{code}
 
@@ -30,6 +30,10 @@ unfoldable pub fields_of : List ℕ → List (List ℕ)
 unfolding opened
 fields_of [] = []
 fields_of (b ∷ s) = cond (is_blank b) (fields_of s) (opened b s (fields_of s))
+
+-- f is what stands in s between two of its positions
+unfoldable pub StandsIn : List ℕ → List ℕ → Type 0
+StandsIn s f = (from : ℕ) × (to : ℕ) × (from ≤ to) × (to ≤ length s) × (take (to - from) (drop from s) ≡ f)
 
 -- ---- words
 

@@ -1,7 +1,14 @@
 // The fields of a line, and the words of a table of names.
-ghost use Rattle.std.specs.Prelude.{◌≡◌, [], ◌∷◌, ◌<◌, ◌≤◌, length, get_or, MatchOption, IfSome};
-ghost use Rattle.text.specs.Fields.{is_blank, fields_of, place_of};
+ghost use Rattle.std.specs.Prelude.{◌≡◌, false, [], ◌∷◌, ◌++◌, ◌-◌, ◌<◌, ◌≤◌, length, get_or, take, drop, MatchOption, IfSome};
+ghost use Rattle.text.specs.Fields.{is_blank, fields_of, StandsIn, place_of};
 ghost use Rattle.text.specs.Scan.{lead};
+
+// A field by where it begins and ends; the two are one place where there is none.
+#[derive(Clone, Copy, Debug, PartialEq, Eq)]
+pub struct Part {
+    pub from: usize,
+    pub to: usize,
+}
 
 #[tactic(auto, unfolding(crate::specs::Fields::is_blank))]
 fn is_blank(b: u8) -> bool
@@ -24,6 +31,7 @@ fn lead(s: &[u8], blank: bool) -> usize
 pub fn next_field(s: &[u8]) -> Option<(&[u8], &[u8])>
     ensures fields { MatchOption result (fields_of s.now ≡ []) (λ p. fields_of s.now ≡ p.0.now ∷ fields_of p.1.now) }
     ensures shorter { IfSome result (λ p. length p.1.now < length s.now) }
+    ensures place { IfSome result (λ p. s.now ≡ take (lead false s.now) s.now ++ p.0.now ++ p.1.now) }
 {
     let s = &s[lead(s, false)..];
     if s.is_empty() {
@@ -32,22 +40,40 @@ pub fn next_field(s: &[u8]) -> Option<(&[u8], &[u8])>
     Some(s.split_at(lead(s, true)))
 }
 
-// Field n of a line, counted from 0; empty where there are fewer.
+// Where field n of a line stands, counted from 0; an empty part where there are fewer.
 #[tactic(auto, using(crate::proofs::fields::Scanning::nths))]
-pub fn nth(s: &[u8], n: usize) -> &[u8]
-    ensures { result.now ≡ get_or (fields_of s.now) n [] }
+pub fn nth_part(s: &[u8], n: usize) -> Part
+    ensures s_value { take (result.to - result.from) (drop result.from s.now) ≡ get_or (fields_of s.now) n [] }
+    ensures from_le_to { (result.from ≤ result.to) × (result.to ≤ length s.now) }
 {
+    let none = Part {
+        from: s.len(),
+        to: s.len(),
+    };
     let mut rest = s;
     for _ in 0..n {
         let Some((_, after)) = next_field(rest) else {
-            return b"";
+            return none;
         };
         rest = after;
     }
-    match next_field(rest) {
-        Some((field, _)) => field,
-        None => b"",
+    let Some((field, after)) = next_field(rest) else {
+        return none;
+    };
+    let to = s.len() - after.len();
+    Part {
+        from: to - field.len(),
+        to,
     }
+}
+
+// Field n of a line, counted from 0; empty where there are fewer.
+pub fn nth(s: &[u8], n: usize) -> &[u8]
+    ensures value { result.now ≡ get_or (fields_of s.now) n [] }
+    ensures place { StandsIn s.now result.now }
+{
+    let p = nth_part(s, n);
+    &s[p.from..p.to]
 }
 
 // How many fields a line has.

@@ -3,4 +3,4 @@ use Rattle.reader.proofs.Lines.{value_names}
 use Rattle.reader.proofs.value_place.Goals as goal
 
 pub returns : goal.returns
-returns c = value_names _ _ c.nth.ensures c.place_of.ensures
+returns c = value_names _ _ c.nth.ensures.value c.place_of.ensures

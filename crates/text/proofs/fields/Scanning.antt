@@ -1,7 +1,7 @@
 -- Fields found by position: where a search for a blank ends, and what the fields from a position on are.
 use mathlib.Core.Path.{◌≡◌, refl, sym, ◌∙◌, ap}
 use mathlib.Core.Bool.{Bool, true, false, beq}
-use mathlib.Core.List.{List, [], ◌∷◌}
+use mathlib.Core.List.{List, [], ◌∷◌, ◌++◌}
 use Prim.Native.Nat.{ℕ, ◌+◌, ◌-◌, ◌≤◌, ◌<◌}
 use native.Mathlib.Numerals.{add-one}
 use native.Mathlib.Omega.{arith}
@@ -12,7 +12,9 @@ use lib.Seq.{drop-drop, get_or-drop, take_all}
 use borrow.Author.Rules.{rules}
 use Rattle.text.specs.Fields.{is_blank, push, opened, fields_of, same, place_from}
 use Rattle.text.specs.Scan.{lead}
-use Rattle.std.proofs.Common.{Option, Some, None}
+use Rattle.std.proofs.Common.{Option, Some, None, append_assoc, length-append}
+use Rattle.std.proofs.lemmas.List.{take-append-drop}
+use Rattle.std.proofs.Math.Seq.{take-append_seam, drop-append_seam}
 
 -- ---- the search for a byte that is blank, or is not
 
@@ -79,6 +81,38 @@ module _ (s t : List ℕ) (e : t ≡ drop (lead false s) s) where
 
   pub one-shorter : (length t ≡ 0 → ⊥) → 0 < lead true t
   one-shorter z = let p : 0 < length t = omega arith in rw e (some s (rw e at p))
+
+  -- what stands in front of `t` is blank, and t is cut in two anywhere
+  pub whole : (k : ℕ) → s ≡ take (lead false s) s ++ take k t ++ drop k t
+  whole k = sym (append_assoc (take (lead false s) s) (take k t) (drop k t) ∙ rw (take-append-drop k t, e) (take-append-drop (lead false s) s))
+
+-- ---- where a field stands
+
+-- `r` is the end of `s`: blanks, the field `f`, and what is left behind it
+module _ (s r f a : List ℕ) (d : r ≡ drop (length s - length r) s) (h : length r ≤ length s) (e : r ≡ take (lead false r) r ++ f ++ a) where
+  abbrev blanks : List ℕ
+  blanks = take (lead false r) r
+
+  lengths : length r ≡ length blanks + length f + length a
+  lengths = ap length e ∙ length-append (blanks ++ f) a ∙ ap (λ (x : ℕ). x + length a) (length-append blanks f)
+
+  -- what is passed of `r` is passed of `s`
+  passes : (p t : List ℕ) → p ++ t ≡ r → t ≡ drop (length s - length r + length p) s
+  passes p t x = sym (sym (drop-drop (length p) (length s - length r) s) ∙ ap (drop (length p)) (sym d ∙ sym x) ∙ drop-append_seam p t)
+
+  pub left-shorter : length a ≤ length s
+  left-shorter = omega (arith, lengths, h)
+
+  pub left-over : a ≡ drop (length s - length a) s
+  left-over =
+    let n : length s - length a ≡ length s - length r + length (blanks ++ f) = omega (arith, lengths, length-append blanks f, h) in
+    rw n (passes (blanks ++ f) a (sym e))
+
+  pub stands : take (length s - length a - (length s - length a - length f)) (drop (length s - length a - length f) s) ≡ f
+  stands =
+    let n : length s - length a - length f ≡ length s - length r + length blanks = omega (arith, lengths, h) in
+    let m : length s - length a - (length s - length a - length f) ≡ length f = omega (arith, lengths, h) in
+    rw (m, n, ← passes blanks (f ++ a) (sym (append_assoc blanks f a) ∙ sym e)) (take-append_seam f a)
 
 -- ---- words that are the same
 
