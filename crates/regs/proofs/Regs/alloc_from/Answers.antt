@@ -11,10 +11,10 @@ unfolding end_fault fault extended
 returns-in_err-end c =
     let p = past _ c.end_of.ensures c.in_err-end.was in
     let q = err_from_is_err_and c.from_residual.result c.from_residual.ensures.1 in
-    rw (q.1, q.2, p.1, p.0) (refl, refl)
+    rw (q.1, q.2, p.1, p.0) (refl, refl, refl)
 
 pub returns : goal.returns
 unfolding end_fault fault extended
 returns c =
     let p = within _ c.end_of.ensures c.in_ok-end.was in
-    rw p.0 (cc, cc)
+    rw p.0 (cc, cc, cc)
