@@ -69,6 +69,7 @@ impl Regs {
     }
 
     // Reserves the n registers from start on, where start is already handed out; refused, it leaves the counter as it was.
+    #[tactic(auto, unfolding(crate::specs::Counter::end_fault, crate::specs::Counter::extended, faults::specs::Faults::fault))]
     pub fn alloc_from(&mut self, start: u16, n: u16) -> Result<(), Fault>
         ensures { (result ≡ end_fault (start + n))
             × (result ≡ (extended self.old start n).got)
