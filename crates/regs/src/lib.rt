@@ -69,8 +69,11 @@ impl Regs {
     }
 
     // Reserves the n registers from start on, where start is already handed out; refused, it leaves the counter as it was.
+    #[tactic(auto, unfolding(crate::specs::Counter::end_fault, crate::specs::Counter::extended, faults::specs::Faults::fault))]
     pub fn alloc_from(&mut self, start: u16, n: u16) -> Result<(), Fault>
-        ensures { (result ≡ end_fault (start + n)) × (self.new ≡ (extended self.old start n).regs) }
+        ensures { (result ≡ end_fault (start + n))
+            × (result ≡ (extended self.old start n).got)
+            × (self.new ≡ (extended self.old start n).regs) }
     {
         let end = end_of(start, n)?;
         self.reach(self.next.max(end));
