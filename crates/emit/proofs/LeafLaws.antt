@@ -1,5 +1,5 @@
 -- What a leaf has to show: an immediate, a constant and its slot, the register of a Ref.
-use Rattle.std.specs.Prelude.{Option, Result, Ok}
+use Rattle.std.specs.Prelude.{Option, Result, Ok, Err}
 use Rattle.faults.specs.declared.Fault.{Fault}
 use mathlib.Core.Path.{◌≡◌, refl, sym, ap, subst, ◌∙◌}
 use mathlib.Core.Bool.{Bool, true, false}
@@ -23,12 +23,16 @@ use Rattle.emit.specs.State.{State, dest_d}
 use Rattle.fold.specs.Literal.{fits_imm40}
 use Rattle.emit.specs.Steps.{put_d, load_op, raw_nil, raw_true, raw_false, const_to, const_d, leaf_d}
 use Rattle.emit.specs.Read.{Bufs, bufs, const_of, st_of, Fit, Says, Steps, LeafReady}
-use Rattle.emit.proofs.Laws.{go, kept, says-by}
+use Rattle.emit.proofs.Laws.{go, stop, kept, says-by}
 use Rattle.fold.proofs.literal.Literals.{held}
 
 -- ---- a constant: its register first
 
 module _ {c ks ps : List ℕ} {st : St} (fit : Fit (bufs c ks ps) st) (v : Datum) (dst : Option ℕ) {x : Result (ℕ × St) Fault} (to : (c : List ℕ) → Steps c c st x (dest_d dst)) where
+  pub const-stop : {f : Fault} {r : Result (ℕ × St) Fault} → x ≡ Err f → r ≡ Err f → Says (bufs c ks ps) r (const_d v dst (st_of (bufs c ks ps) st))
+  unfolding const_d
+  const-stop e q = stop _ e q (to c ks ps fit)
+
   pub const-go : {b : Bufs} {d : ℕ} {s : St} {r : Result (ℕ × St) Fault} → x ≡ Ok (d, s) → Says b r (const_to v (d, st_of (bufs c ks ps) s)) → Says b r (const_d v dst (st_of (bufs c ks ps) st))
   unfolding const_d
   const-go e h = says-by (go (const_to v) e (to c ks ps fit)) h

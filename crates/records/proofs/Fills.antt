@@ -2,8 +2,10 @@
 --     flat-put         the next record is put after those before it
 --     copied, kept     the words where there is room for all the records, and where there is not
 --     prefix           the records' part of the words
+--     length-flattened     the words stay as many
 --     prefix-is        what is asked of that part, once the room was looked at, is asked of the records
---     check-is, evaluate-is, compile-is     what is said of that part, and of a refusal, is said of the records
+--     check-is, evaluate-is, compile-is     so what is said of that part is said of the records
+--     check-refused, evaluate-refused, compile-refused     and what is said of a refusal
 --     same_number, same_answer, same-compile     with room for the records, however many they are, all are the word table's
 use Rattle.std.specs.Prelude.{Option, None, Ok, Err}
 use Prim.Native.Nat.{ℕ, ◌+◌, ◌*◌, ◌/◌, ◌%◌, ◌≤◌, ◌<◌, min}
@@ -26,7 +28,7 @@ use Rattle.table.specs.Table.{shape_fault, check_of}
 use Rattle.value.specs.Answer.{fault as faulted}
 use Rattle.eval.specs.Evaluate.{unless, evaluate_of}
 use Rattle.emit.specs.State.{fail}
-use Rattle.compile.specs.Compile.{compile_of}
+use Rattle.compile.specs.Compile.{accepted, compile_of}
 use Rattle.records.specs.Records.{room_fault, words_of, compile_nodes, flat, holding, flattened, check_nodes, evaluate_nodes}
 use Rattle.records.specs.declared.Node.{Node}
 use Rattle.records.proofs.Laws.{many, fits, has_room}
@@ -68,43 +70,53 @@ module _ (ds : List Node) (ws : List ℕ) where
   prefix e u =
       rw (u, ← copied e) (ap (λ (n : ℕ). take n (flat ds ++ drop (4 * length ds) ws)) (sym (length-flat ds)) ∙ take-append_seam (flat ds) _)
 
+-- the words stay as many, whether the records were put or refused
+pub length-flattened : (ds : List Node) (ws : List ℕ) → length (flattened ds ws) ≡ length ws
+length-flattened ds ws = by-fault (room_fault (length ds) (length ws)) refl
+  where
+    by-fault : (f : Checked) → f ≡ room_fault (length ds) (length ws) → length (flattened ds ws) ≡ length ws
+    by-fault (Ok tt) e =
+        let r = has_room (length ds) (length ws) e in
+        let l = length-flat ds in
+        let m = length-append (flat ds) (drop (4 * length ds) ws) in
+        let n = length-drop (4 * length ds) ws in
+        sym (ap length (copied ds ws e)) ∙ omega (arith, r, l, m, n)
+    by-fault (Err f) e = ap length (sym (kept ds ws e))
+
 -- Whatever is asked of a table once the room was looked at: of the prefix and of the records it is the same. A refusal (`stop`) does not look at the table.
 module _ {A : Type 0} (guard : Checked → A → A) (stop : (f : Fault) (x y : A) → guard (Err f) x ≡ guard (Err f) y) (ask : List ℕ → A) (ds : List Node) (ws : List ℕ) where
   pub prefix-is : guard (room_fault (length ds) (length (flattened ds ws))) (ask (take (4 * length ds) (flattened ds ws))) ≡ guard (room_fault (length ds) (length ws)) (ask (flat ds))
-  prefix-is = by-fault (room_fault (length ds) (length ws)) refl
+  prefix-is = rw (length-flattened ds ws) (by-fault (room_fault (length ds) (length ws)) refl)
     where
-      same-length : (e : Ok tt ≡ room_fault (length ds) (length ws)) → length (flattened ds ws) ≡ length ws
-      same-length e =
-          let r = has_room (length ds) (length ws) e in
-          let l = length-flat ds in
-          let m = length-append (flat ds) (drop (4 * length ds) ws) in
-          let n = length-drop (4 * length ds) ws in
-          sym (ap length (copied ds ws e)) ∙ omega (arith, r, l, m, n)
+      by-fault : (f : Checked) → f ≡ room_fault (length ds) (length ws) → guard f (ask (take (4 * length ds) (flattened ds ws))) ≡ guard f (ask (flat ds))
+      by-fault (Ok tt) e = ap (λ (us : List ℕ). guard (Ok tt) (ask us)) (prefix ds ws e refl)
+      by-fault (Err f) e = stop f _ _
 
-      by-fault : (f : Checked) → f ≡ room_fault (length ds) (length ws) →
-          guard (room_fault (length ds) (length (flattened ds ws))) (ask (take (4 * length ds) (flattened ds ws))) ≡ guard (room_fault (length ds) (length ws)) (ask (flat ds))
-      by-fault (Ok tt) e = rw (same-length e, prefix ds ws e refl)
-      by-fault (Err f) e =
-          let k = sym (kept ds ws e) in
-          ap (λ (us : List ℕ). guard (room_fault (length ds) (length us)) (ask (take (4 * length ds) us))) k
-          ∙ ap (λ (c : Checked). guard c (ask (take (4 * length ds) ws))) (sym e) ∙ stop f _ _ ∙ ap (λ (c : Checked). guard c (ask (flat ds))) e
+-- ---- with the words that are lent there is room (e), and they hold the records (u), or there is none
 
--- ---- with m words lent, there is room (e) or there is none
+module _ (ds : List Node) (ws : List ℕ) (e : Ok tt ≡ room_fault (length ds) (length ws)) {us : List ℕ} (u : us ≡ flattened ds ws) where
+  there : room_fault (length ds) (length (flattened ds ws)) ≡ Ok tt
+  there = ap (room_fault (length ds)) (length-flattened ds ws) ∙ sym e
+
+  asked : {A : Type 0} (guard : Checked → A → A) → ((f : Fault) (x y : A) → guard (Err f) x ≡ guard (Err f) y) → (ask : List ℕ → A) →
+      guard (Ok tt) (ask (take (4 * length ds) us)) ≡ guard (room_fault (length ds) (length ws)) (ask (flat ds))
+  asked guard stop ask =
+      rw u (sym (ap (λ (f : Checked). guard f (ask (take (4 * length ds) (flattened ds ws)))) there) ∙ prefix-is guard stop ask ds ws)
+
+  pub check-is : (p l : ℕ) (dest : Option ℕ) → check_of (take (4 * length ds) us) p l dest ≡ check_nodes ds (length ws) p l dest
+  unfolding check_nodes ◌or_else◌
+  check-is p l dest = asked ◌or_else◌ (λ f x y. refl) (λ us. check_of us p l dest)
+
+  pub evaluate-is : (p l : ℕ) (ks ps : List ℕ) → evaluate_of (take (4 * length ds) us) p l ks ps ≡ evaluate_nodes ds (length ws) p l ks ps
+  unfolding evaluate_nodes unless
+  evaluate-is p l ks ps = asked unless (λ f x y. refl) (λ us. evaluate_of us p l ks ps)
+
+  pub compile-is : (p l : ℕ) (dest : Option ℕ) (c k q : ℕ) →
+      compile_of (take (4 * length ds) us) p l dest max_nodes c (min k q) ≡ compile_nodes ds (length ws) p l dest c k q
+  unfolding compile_nodes
+  compile-is p l dest c k q = asked accepted (λ f x y. refl) (λ us. compile_of us p l dest max_nodes c (min k q))
 
 module _ (ds : List Node) (m : ℕ) where
-  module _ (e : Ok tt ≡ room_fault (length ds) m) where
-    pub check-is : (p l : ℕ) (dest : Option ℕ) → check_of (flat ds) p l dest ≡ check_nodes ds m p l dest
-    unfolding check_nodes ◌or_else◌
-    check-is p l dest = rw (← e)
-
-    pub evaluate-is : (p l : ℕ) (ks ps : List ℕ) → evaluate_of (flat ds) p l ks ps ≡ evaluate_nodes ds m p l ks ps
-    unfolding evaluate_nodes unless
-    evaluate-is p l ks ps = rw (← e)
-
-    pub compile-is : (p l : ℕ) (dest : Option ℕ) (c k q : ℕ) → compile_of (flat ds) p l dest max_nodes c (min k q) ≡ compile_nodes ds m p l dest c k q
-    unfolding compile_nodes
-    compile-is p l dest c k q = rw (← e)
-
   module _ {f : Fault} (e : Err f ≡ room_fault (length ds) m) where
     pub check-refused : (p l : ℕ) (dest : Option ℕ) → Err f ≡ check_nodes ds m p l dest
     unfolding check_nodes ◌or_else◌

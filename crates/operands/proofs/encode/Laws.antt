@@ -19,7 +19,7 @@ use Rattle.insns.specs.Bits.{twos}
 use Rattle.insns.specs.Insns.{form_at, widths}
 use Rattle.insns.specs.declared.op.Form.{Form}
 use Rattle.operands.specs.Encode.{fields_from, encode_of}
-use Rattle.operands.specs.Shapes.{field_at, shapes_of, Narrow}
+use Rattle.operands.specs.Shapes.{size_of, field_at, shapes_of, Narrow}
 use Rattle.operands.specs.declared.encode.Shape.{Shape}
 
 pub shapes-at : {f g : Form} {r : List Shape} → f ≡ g → r ≡ shapes_of g → r ≡ shapes_of f
@@ -38,14 +38,27 @@ module _ (p : ℕ) {s : Shape} {z : ℤ} {r : ℕ} (f : SFits w64 z) (e : z ≡ 
   pub field-raw : s ≡ Shape.Raw → r ≡ raw_bits (to_z w64 (of_z w64 z)) → (1099511627776, r) ≡ field_at s p
   field-raw k q = ap (λ (x : ℕ). (1099511627776, x)) (q ∙ ap raw_bits (to_z-of_z f ∙ e)) ∙ field-is p k
 
--- ---- the operands of every form
+-- ---- the fields of every form are narrow, at most five, and have room in a word
+
+-- what the code reads past the end
+abbrev default : Shape
+default = Shape.Unsigned 0
+
+abbrev sized : List Shape → ℕ → ℕ
+sized ss k = size_of (get_or ss k default)
+
+fits : List Shape → Bool
+fits ss =
+    leb (sized ss 0) (2 ^ 41) && (leb (sized ss 1) (2 ^ 41) && (leb (sized ss 2) (2 ^ 41) && (leb (sized ss 3) (2 ^ 41) && (leb (sized ss 4) (2 ^ 41)
+    && leb (sized ss 0 * (sized ss 1 * (sized ss 2 * (sized ss 3 * sized ss 4)))) (2 ^ 56)))))
 
 -- every operand has at most 40 bits
 abbrev pub narrow : List Width → Bool
 narrow [] = true
 narrow (w ∷ ws) = leb (bits w) 40 && narrow ws
 
-every : (f : Form) → (leb (length (widths f)) 5 && narrow (widths f)) ≡ true
+every : (f : Form) → (fits (shapes_of f) && (leb (length (widths f)) 5 && narrow (widths f))) ≡ true
+unfolding fits
 every (Form.Bare k) = refl
 every Form.LoadImm40 = refl
 every (Form.Two k) = refl
@@ -71,14 +84,42 @@ every Form.CallMethodHost = refl
 every Form.RetImm40 = refl
 every Form.Unknown = refl
 
+pub record Fit (ss : List Shape) : Type 0 where
+  pub a : Narrow (get_or ss 0 default)
+  pub b : Narrow (get_or ss 1 default)
+  pub c : Narrow (get_or ss 2 default)
+  pub d : Narrow (get_or ss 3 default)
+  pub e : Narrow (get_or ss 4 default)
+  pub room : sized ss 0 * (sized ss 1 * (sized ss 2 * (sized ss 3 * sized ss 4))) ≤ 2 ^ 56
+
+pub fit : (f : Form) {ss : List Shape} → ss ≡ shapes_of f → Fit ss
+unfolding fits
+fit f k =
+    let h1 = and-true _ _ (ap fits k ∙ (and-true (fits (shapes_of f)) _ (every f)).0) in
+    let h2 = and-true _ _ h1.1 in
+    let h3 = and-true _ _ h2.1 in
+    let h4 = and-true _ _ h3.1 in
+    let h5 = and-true _ _ h4.1 in
+    record {
+      a = leb-true _ _ h1.0;
+      b = leb-true _ _ h2.0;
+      c = leb-true _ _ h3.0;
+      d = leb-true _ _ h4.0;
+      e = leb-true _ _ h5.0;
+      room = leb-true _ _ h5.1;
+    }
+
+pub room_by : {ss : List Shape} {ma mb mc md me : ℕ} → ma ≡ sized ss 0 → mb ≡ sized ss 1 → mc ≡ sized ss 2 → md ≡ sized ss 3 → me ≡ sized ss 4
+    → (f : Form) → ss ≡ shapes_of f → ma * (mb * (mc * (md * me))) ≤ 2 ^ 56
+room_by ka kb kc kd ke f k = rw (ka, kb, kc, kd, ke) (fit f k).room
+
 pub at-most-five : (f : Form) → (length (widths f) ≤ 5) × (narrow (widths f) ≡ true)
-at-most-five f = let h = and-true (leb (length (widths f)) 5) (narrow (widths f)) (every f) in (leb-true (length (widths f)) 5 h.0, h.1)
+at-most-five f =
+    let few = and-true (fits (shapes_of f)) (leb (length (widths f)) 5 && narrow (widths f)) (every f) in
+    let h = and-true (leb (length (widths f)) 5) (narrow (widths f)) few.1 in
+    (leb-true (length (widths f)) 5 h.0, h.1)
 
 -- ---- an opcode and five operands
-
--- what the code reads past the end
-abbrev default : Shape
-default = Shape.Unsigned 0
 
 abbrev five : List Shape → ℕ → ℕ → ℕ → ℕ → ℕ → List Field
 five ss a b c d e =

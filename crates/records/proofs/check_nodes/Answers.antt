@@ -1,7 +1,7 @@
 -- `records::check_nodes` meets its contract: the records are flattened, and what their words answer is theirs.
 use Rattle.std.proofs.Common.{rules, ◌/◌, ◌≤◌, length, ◌∙◌}
 use Rattle.records.proofs.Laws.{has_room, handed}
-use Rattle.records.proofs.Fills.{prefix, check-is, check-refused}
+use Rattle.records.proofs.Fills.{check-is, check-refused}
 use Rattle.records.proofs.check_nodes.Goals as goal
 
 pub returns-in_err-flatten : goal.returns-in_err-flatten
@@ -23,5 +23,4 @@ pub returns : goal.returns
 returns c =
     let e = c.in_ok-flatten.ensures in
     let g = c.args in
-    let h = prefix g.nodes.now g.words.now e.answer e.words in
-    ((rw h at c.check.ensures) ∙ check-is g.nodes.now _ e.answer g.params g.locals g.dest, e.words)
+    (c.check.ensures ∙ check-is g.nodes.now g.words.now e.answer e.words g.params g.locals g.dest, e.words)

@@ -2,7 +2,7 @@
 use Rattle.std.proofs.Common.{rules, ◌/◌, ◌≤◌, length}
 use Rattle.compile.proofs.Entries.{compiles-by}
 use Rattle.records.proofs.Laws.{has_room}
-use Rattle.records.proofs.Fills.{prefix, compile-is, compile-refused}
+use Rattle.records.proofs.Fills.{compile-is, compile-refused}
 use Rattle.records.proofs.compile_nodes.Goals as goal
 
 pub slice_bounds-compile-end : goal.slice_bounds-compile-end
@@ -19,8 +19,8 @@ pub returns-in-Ok : goal.returns-in-Ok
 returns-in-Ok c =
     let e = c.in-Ok.ensures in
     let g = c.args in
-    let h = prefix g.nodes.now g.words.now e.answer e.words in
-    (compiles-by (compile-is g.nodes.now _ e.answer g.params g.locals g.dest (length g.code.now) (length g.kinds.now) (length g.payloads.now)) (rw h at c.compile.ensures), e.words)
+    let h = compile-is g.nodes.now g.words.now e.answer e.words g.params g.locals g.dest (length g.code.now) (length g.kinds.now) (length g.payloads.now) in
+    (compiles-by h c.compile.ensures, e.words)
 
 pub returns-in-Err : goal.returns-in-Err
 returns-in-Err c =

@@ -2,7 +2,7 @@
 use Rattle.std.proofs.Common.{rules, ◌/◌, ◌≤◌, length, ap, ◌∙◌}
 use Rattle.value.specs.Answer.{result_of}
 use Rattle.records.proofs.Laws.{has_room, handed}
-use Rattle.records.proofs.Fills.{prefix, evaluate-is, evaluate-refused}
+use Rattle.records.proofs.Fills.{evaluate-is, evaluate-refused}
 use Rattle.records.proofs.evaluate_nodes.Goals as goal
 
 pub returns-in_err-flatten : goal.returns-in_err-flatten
@@ -25,5 +25,4 @@ pub returns : goal.returns
 returns c =
     let e = c.in_ok-flatten.ensures in
     let g = c.args in
-    let h = prefix g.nodes.now g.words.now e.answer e.words in
-    ((rw h at c.evaluate.ensures) ∙ evaluate-is g.nodes.now _ e.answer g.params g.locals g.kinds.now g.payloads.now, e.words)
+    (c.evaluate.ensures ∙ evaluate-is g.nodes.now g.words.now e.answer e.words g.params g.locals g.kinds.now g.payloads.now, e.words)
