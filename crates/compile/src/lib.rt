@@ -131,9 +131,16 @@ fn with<const PLACES: usize>(
         (length code.old) (length kinds.old) (length payloads.old) }
 {
     let mut jumps = [0u64; PLACES];
-    generate(
+    let made = generate(
         nodes, params, locals, dest, code, kinds, payloads, &mut jumps,
-    )
+    )?;
+    // Part by part: an answer that is copied whole asks RISC-V's firmware for memcpy (docs/PORTING.md).
+    Ok(Compiled {
+        words: made.words,
+        slots: made.slots,
+        register: made.register,
+        frame: made.frame,
+    })
 }
 
 // A checked table with the list for `most` nodes, or, where it has more nodes, with a longer list. The compiler inlines a routine that is called once, which
@@ -153,19 +160,25 @@ fn listed(
     ensures { Leaves result nodes.now params locals dest code.new kinds.new payloads.new
         (length code.old) (length kinds.old) (length payloads.old) }
 {
-    if MANY < most {
-        return with::<PLACES_FOR_ALL>(nodes, params, locals, dest, code, kinds, payloads);
-    }
-    if most < nodes.len() / 4 {
-        return listed(8 * most, nodes, params, locals, dest, code, kinds, payloads);
-    }
-    if most <= FEW {
-        return with::<PLACES_FOR_FEW>(nodes, params, locals, dest, code, kinds, payloads);
-    }
-    if most <= SOME {
-        return with::<PLACES_FOR_SOME>(nodes, params, locals, dest, code, kinds, payloads);
-    }
-    with::<PLACES_FOR_MANY>(nodes, params, locals, dest, code, kinds, payloads)
+    let answer = if MANY < most {
+        with::<PLACES_FOR_ALL>(nodes, params, locals, dest, code, kinds, payloads)
+    } else if most < nodes.len() / 4 {
+        listed(8 * most, nodes, params, locals, dest, code, kinds, payloads)
+    } else if most <= FEW {
+        with::<PLACES_FOR_FEW>(nodes, params, locals, dest, code, kinds, payloads)
+    } else if most <= SOME {
+        with::<PLACES_FOR_SOME>(nodes, params, locals, dest, code, kinds, payloads)
+    } else {
+        with::<PLACES_FOR_MANY>(nodes, params, locals, dest, code, kinds, payloads)
+    };
+    let made = answer?;
+    // Part by part, as in `with`.
+    Ok(Compiled {
+        words: made.words,
+        slots: made.slots,
+        register: made.register,
+        frame: made.frame,
+    })
 }
 
 // Compiles a node table, with a jump list of its own that has room for every accepted table.
