@@ -126,10 +126,7 @@ impl From<Option<Insn>> for Encoded {
                 number,
                 word: w.bits,
             },
-            None => Encoded {
-                number,
-                word: 0,
-            },
+            None => Encoded { number, word: 0 },
         }
     }
 }

@@ -8,7 +8,7 @@ pub returns-in_err-made : goal.returns-in_err-made
 returns-in_err-made g c =
     let p = err_from_is_err_and c.from_residual.result c.from_residual.ensures.1 in
     rw (p.1, p.2) (enough-places c.args.nodes.now _ _ _ _ _ g.row.PLACES c.requires.dest_value c.requires.nodes_bound
-        (rw (length-replicate, c.in_err-made.was) at c.generate.ensures))
+    (rw (length-replicate, c.in_err-made.was) at c.generate.ensures))
 
 pub returns : goal.returns
 returns g c =

@@ -105,14 +105,14 @@ module _ (s r f a : List ℕ) (d : r ≡ drop (length s - length r) s) (h : leng
 
   pub left-over : a ≡ drop (length s - length a) s
   left-over =
-    let n : length s - length a ≡ length s - length r + length (blanks ++ f) = omega (arith, lengths, length-append blanks f, h) in
-    rw n (passes (blanks ++ f) a (sym e))
+      let n : length s - length a ≡ length s - length r + length (blanks ++ f) = omega (arith, lengths, length-append blanks f, h) in
+      rw n (passes (blanks ++ f) a (sym e))
 
   pub stands : take (length s - length a - (length s - length a - length f)) (drop (length s - length a - length f) s) ≡ f
   stands =
-    let n : length s - length a - length f ≡ length s - length r + length blanks = omega (arith, lengths, h) in
-    let m : length s - length a - (length s - length a - length f) ≡ length f = omega (arith, lengths, h) in
-    rw (m, n, ← passes blanks (f ++ a) (sym (append_assoc blanks f a) ∙ sym e)) (take-append_seam f a)
+      let n : length s - length a - length f ≡ length s - length r + length blanks = omega (arith, lengths, h) in
+      let m : length s - length a - (length s - length a - length f) ≡ length f = omega (arith, lengths, h) in
+      rw (m, n, ← passes blanks (f ++ a) (sym (append_assoc blanks f a) ∙ sym e)) (take-append_seam f a)
 
 -- ---- words that are the same
 
