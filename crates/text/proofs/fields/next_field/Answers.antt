@@ -4,6 +4,10 @@ use Rattle.std.proofs.lemmas.Bool.{eqb-true, eqb-false}
 use Rattle.text.proofs.fields.Scanning.{from-lead, none-left, one-left, one-shorter, whole}
 use Rattle.text.proofs.fields.next_field.Goals as goal
 
+pub returns-clause-place : goal.returns-clause-place
+returns-clause-place c =
+    rw (c.split_at.ensures.front, c.split_at.ensures.back) (whole c.args.s.now _ (from-lead c.args.s.now c.lead.ensures.value) _)
+
 pub returns-then-is_empty-clause-fields : goal.returns-then-is_empty-clause-fields
 returns-then-is_empty-clause-fields c = none-left c.args.s.now _ (from-lead c.args.s.now c.lead.ensures.value) (eqb-true _ 0 (sym c.is_empty.ensures ∙ c.if-is_empty.true))
 
@@ -15,7 +19,3 @@ pub returns-clause-shorter : goal.returns-clause-shorter
 returns-clause-shorter c =
     let some = one-shorter c.args.s.now _ (from-lead c.args.s.now c.lead.ensures.value) (eqb-false _ 0 (sym c.is_empty.ensures ∙ c.if-is_empty.false)) in
     omega (arith, some, c.split_at.ensures.back_len)
-
-pub returns-clause-place : goal.returns-clause-place
-returns-clause-place c =
-    rw (c.split_at.ensures.front, c.split_at.ensures.back) (whole c.args.s.now _ (from-lead c.args.s.now c.lead.ensures.value) _)
