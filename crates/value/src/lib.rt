@@ -42,8 +42,8 @@ pub fn from_pair(kind: u8, payload: u64) -> Option<Value>
     ensures { Vs.read_of result ≡ Vs.of_pair kind payload }
 {
     match kind {
-        NIL if payload == 0 => Some(Value::Nil),
-        BOOL if payload < 2 => Some(Value::Bool(payload == 1)),
+        NIL => (payload == 0).then_some(Value::Nil),
+        BOOL => (payload < 2).then_some(Value::Bool(payload == 1)),
         INT => Some(Value::Int(int64::sign::signed(payload))),
         FLOAT => Some(of_pattern(payload)),
         _ => None,
